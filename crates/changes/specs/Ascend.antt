@@ -1,0 +1,199 @@
+-- One field 22 and what may follow it.
+use mathlib.Core.Path.{_≡_, refl, sym, ap, _∙_}
+use mathlib.Core.Bool.{cond}
+use mathlib.Core.List.{List, [], _∷_}
+use Prim.Native.Nat.{ℕ}
+use lib.Dec.{eqb}
+use Rattle.scan.specs.declared.Scan.{Scan}
+use Rattle.scan.specs.declared.Span.{Span}
+use Rattle.scan.specs.Grammar.{G, alt, none}
+use Rattle.scan.specs.Texts.{_⨾_, byte, opt, lit}
+use Rattle.scan.specs.Scanner.{scan, among, occurs, spanBy}
+use Rattle.fields.specs.Names as n
+use Rattle.fields.specs.declared.Found07.{Found07}
+use Rattle.fields.specs.declared.Found08.{Found08}
+use Rattle.fields.specs.declared.Found09.{Found09}
+use Rattle.fields.specs.declared.Found10.{Found10}
+use Rattle.fields.specs.declared.Found13.{Found13}
+use Rattle.fields.specs.declared.Found15.{Found15}
+use Rattle.fields.specs.declared.Found16.{Found16}
+use Rattle.fields.specs.declared.Found18.{Found18}
+use Rattle.fields.specs.Fields.{_─_, nothing18, three18, four18, g07, g08, g09, g10, g13, g15, g16, g18}
+use Rattle.fields.specs.Found.{found07, same07, found08, same08, found09, same09, found10, same10, found13, same13, found15, same15, found16, same16, found18, same18}
+use Rattle.changes.specs.declared.Plan.{Plan}
+use Rattle.changes.specs.declared.Found22.{Found22}
+use Rattle.changes.specs.declared.FoundTail.{FoundTail}
+use Rattle.changes.specs.Changes.{from08, inChanges, changes, inChanged, changed}
+use Rattle.changes.specs.Found.{planOf, noPlan, found22, eitherFound22, nothing22, found22-alt, found22-opt, foundTail, eitherFoundTail, foundTail-alt}
+
+-- the part k of a plan
+abbrev partOf : ℕ → Plan → Span
+partOf k p =
+    cond (eqb k n.aircraft) (p .aircraft)
+    (cond (eqb k n.code) (p .code)
+    (cond (eqb k n.rules) (p .rules)
+    (cond (eqb k n.flight) (p .flight)
+    (cond (eqb k n.count) (p .count)
+    (cond (eqb k n.model) (p .model)
+    (cond (eqb k n.wake) (p .wake)
+    (cond (eqb k n.equipment) (p .equipment)
+    (cond (eqb k n.surveillance) (p .surveillance)
+    (cond (eqb k n.departure) (p .departure)
+    (cond (eqb k n.time) (p .time)
+    (cond (eqb k n.speed) (p .speed)
+    (cond (eqb k n.level) (p .level)
+    (cond (eqb k n.route) (p .route)
+    (cond (eqb k n.destination) (p .destination)
+    (cond (eqb k n.elapsed) (p .elapsed)
+    (cond (eqb k n.alternate) (p .alternate)
+    (cond (eqb k n.alternate2) (p .alternate2)
+    (cond (eqb k n.indicator) (p .indicator)
+    (cond (eqb k n.other) (p .other) none)))))))))))))))))))
+
+-- a plan with another part k
+abbrev put : ℕ → Span → Plan → Plan
+put k x p = planOf (λ j. cond (eqb j k) x (partOf j p))
+
+-- a field's parts beside what follows it
+abbrev pub with07 : Found07 → Found22 → Found22
+with07 f t = record { end = t .end; plan = put n.code (f .code) (put n.aircraft (f .aircraft) (t .plan)) }
+
+abbrev pub with08 : Found08 → Found22 → Found22
+with08 f t = record { end = t .end; plan = put n.flight (f .flight) (put n.rules (f .rules) (t .plan)) }
+
+abbrev pub with09 : Found09 → Found22 → Found22
+with09 f t = record { end = t .end; plan = put n.wake (f .wake) (put n.model (f .model) (put n.count (f .count) (t .plan))) }
+
+abbrev pub with10 : Found10 → Found22 → Found22
+with10 f t = record { end = t .end; plan = put n.surveillance (f .surveillance) (put n.equipment (f .equipment) (t .plan)) }
+
+abbrev pub with13 : Found13 → Found22 → Found22
+with13 f t = record { end = t .end; plan = put n.time (f .time) (put n.departure (f .departure) (t .plan)) }
+
+abbrev pub with15 : Found15 → Found22 → Found22
+with15 f t = record { end = t .end; plan = put n.route (f .route) (put n.level (f .level) (put n.speed (f .speed) (t .plan))) }
+
+abbrev pub with16 : Found16 → Found22 → Found22
+with16 f t = record { end = t .end; plan = put n.alternate2 (f .alternate2) (put n.alternate (f .alternate) (put n.elapsed (f .elapsed) (put n.destination (f .destination) (t .plan)))) }
+
+abbrev pub with18 : Found18 → Found22 → Found22
+with18 f t = record { end = t .end; plan = put n.other (f .other) (put n.indicator (f .indicator) (t .plan)) }
+
+-- what the parts of g, found after its key, add to what follows
+abbrev pub Adds : List ℕ → G → List ℕ → Scan → (Found22 → Found22) → Type 0
+Adds key g s r f = (t : G) → f (found22 t s (scan g s (scan (lit key) s r))) ≡ found22 (lit key ⨾ g ⨾ t) s r
+
+-- key, field and what follows, or another field: the law of every number but the first and the last
+pub ascend : (key : List ℕ) (g next : G) (s : List ℕ) (r : Scan) (f : Found22 → Found22) → Adds key g s r f → (e b : Scan) (none u t o q : Found22) → e ≡ scan g s (scan (lit key) s r) → b ≡ scan (byte 45) s e → none ≡ nothing22 e → u ≡ found22 next s b → t ≡ eitherFound22 none u → o ≡ found22 next s r → q ≡ eitherFound22 (f t) o → q ≡ found22 (alt (lit key ⨾ g ⨾ opt (byte 45 ⨾ next)) next) s r
+ascend key g next s r f adds e b none u t o q pe pb pn pu pt po pq =
+    let w : t ≡ found22 (opt (byte 45 ⨾ next)) s e = pt ∙ rw (pn, pu, pb) (found22-opt next s e) in
+    let v : f t ≡ found22 (lit key ⨾ g ⨾ opt (byte 45 ⨾ next)) s r = rw (w, pe) (adds (opt (byte 45 ⨾ next))) in
+    pq ∙ rw (v, po) (found22-alt (lit key ⨾ g ⨾ opt (byte 45 ⨾ next)) next s r)
+
+abbrev pub key07 : List ℕ
+key07 = 48 ∷ 55 ∷ 47 ∷ []
+
+pub is07 : (s : List ℕ) (r a : Scan) (f : Found07) → a ≡ scan (lit key07) s r → f ≡ found07 0 s a → f ≡ found07 n.amended s (scan (lit key07) s r)
+is07 s r a f e h = h ∙ ap {B = Found07} (λ (x : Scan). found07 0 s x) e ∙ sym (same07 s (scan (lit key07) s r))
+
+pub adds07 : (s : List ℕ) (r : Scan) (f : Found07) → f ≡ found07 n.amended s (scan (lit key07) s r) → Adds key07 (g07 n.amended) s r (with07 f)
+unfolding found22 among occurs spanBy
+adds07 s r f h t = ap {B = Found22} (λ (x : Found07). with07 x (found22 t s (scan (g07 n.amended) s (scan (lit key07) s r)))) h
+
+abbrev pub key08 : List ℕ
+key08 = 48 ∷ 56 ∷ 47 ∷ []
+
+pub is08 : (s : List ℕ) (r a : Scan) (f : Found08) → a ≡ scan (lit key08) s r → f ≡ found08 0 s a → f ≡ found08 n.amended s (scan (lit key08) s r)
+is08 s r a f e h = h ∙ ap {B = Found08} (λ (x : Scan). found08 0 s x) e ∙ sym (same08 s (scan (lit key08) s r))
+
+pub adds08 : (s : List ℕ) (r : Scan) (f : Found08) → f ≡ found08 n.amended s (scan (lit key08) s r) → Adds key08 (g08 n.amended) s r (with08 f)
+unfolding found22 among occurs spanBy
+adds08 s r f h t = ap {B = Found22} (λ (x : Found08). with08 x (found22 t s (scan (g08 n.amended) s (scan (lit key08) s r)))) h
+
+abbrev pub key09 : List ℕ
+key09 = 48 ∷ 57 ∷ 47 ∷ []
+
+pub is09 : (s : List ℕ) (r a : Scan) (f : Found09) → a ≡ scan (lit key09) s r → f ≡ found09 0 s a → f ≡ found09 n.amended s (scan (lit key09) s r)
+is09 s r a f e h = h ∙ ap {B = Found09} (λ (x : Scan). found09 0 s x) e ∙ sym (same09 s (scan (lit key09) s r))
+
+pub adds09 : (s : List ℕ) (r : Scan) (f : Found09) → f ≡ found09 n.amended s (scan (lit key09) s r) → Adds key09 (g09 n.amended) s r (with09 f)
+unfolding found22 among occurs spanBy
+adds09 s r f h t = ap {B = Found22} (λ (x : Found09). with09 x (found22 t s (scan (g09 n.amended) s (scan (lit key09) s r)))) h
+
+abbrev pub key10 : List ℕ
+key10 = 49 ∷ 48 ∷ 47 ∷ []
+
+pub is10 : (s : List ℕ) (r a : Scan) (f : Found10) → a ≡ scan (lit key10) s r → f ≡ found10 0 s a → f ≡ found10 n.amended s (scan (lit key10) s r)
+is10 s r a f e h = h ∙ ap {B = Found10} (λ (x : Scan). found10 0 s x) e ∙ sym (same10 s (scan (lit key10) s r))
+
+pub adds10 : (s : List ℕ) (r : Scan) (f : Found10) → f ≡ found10 n.amended s (scan (lit key10) s r) → Adds key10 (g10 n.amended) s r (with10 f)
+unfolding found22 among occurs spanBy
+adds10 s r f h t = ap {B = Found22} (λ (x : Found10). with10 x (found22 t s (scan (g10 n.amended) s (scan (lit key10) s r)))) h
+
+abbrev pub key13 : List ℕ
+key13 = 49 ∷ 51 ∷ 47 ∷ []
+
+pub is13 : (s : List ℕ) (r a : Scan) (f : Found13) → a ≡ scan (lit key13) s r → f ≡ found13 0 s a → f ≡ found13 n.amended s (scan (lit key13) s r)
+is13 s r a f e h = h ∙ ap {B = Found13} (λ (x : Scan). found13 0 s x) e ∙ sym (same13 s (scan (lit key13) s r))
+
+pub adds13 : (s : List ℕ) (r : Scan) (f : Found13) → f ≡ found13 n.amended s (scan (lit key13) s r) → Adds key13 (g13 n.amended) s r (with13 f)
+unfolding found22 among occurs spanBy
+adds13 s r f h t = ap {B = Found22} (λ (x : Found13). with13 x (found22 t s (scan (g13 n.amended) s (scan (lit key13) s r)))) h
+
+abbrev pub key15 : List ℕ
+key15 = 49 ∷ 53 ∷ 47 ∷ []
+
+pub is15 : (s : List ℕ) (r a : Scan) (f : Found15) → a ≡ scan (lit key15) s r → f ≡ found15 0 s a → f ≡ found15 n.amended s (scan (lit key15) s r)
+is15 s r a f e h = h ∙ ap {B = Found15} (λ (x : Scan). found15 0 s x) e ∙ sym (same15 s (scan (lit key15) s r))
+
+pub adds15 : (s : List ℕ) (r : Scan) (f : Found15) → f ≡ found15 n.amended s (scan (lit key15) s r) → Adds key15 (g15 n.amended) s r (with15 f)
+unfolding found22 among occurs spanBy
+adds15 s r f h t = ap {B = Found22} (λ (x : Found15). with15 x (found22 t s (scan (g15 n.amended) s (scan (lit key15) s r)))) h
+
+abbrev pub key16 : List ℕ
+key16 = 49 ∷ 54 ∷ 47 ∷ []
+
+pub is16 : (s : List ℕ) (r a : Scan) (f : Found16) → a ≡ scan (lit key16) s r → f ≡ found16 0 s a → f ≡ found16 n.amended s (scan (lit key16) s r)
+is16 s r a f e h = h ∙ ap {B = Found16} (λ (x : Scan). found16 0 s x) e ∙ sym (same16 s (scan (lit key16) s r))
+
+pub adds16 : (s : List ℕ) (r : Scan) (f : Found16) → f ≡ found16 n.amended s (scan (lit key16) s r) → Adds key16 (g16 n.amended) s r (with16 f)
+unfolding found22 among occurs spanBy
+adds16 s r f h t = ap {B = Found22} (λ (x : Found16). with16 x (found22 t s (scan (g16 n.amended) s (scan (lit key16) s r)))) h
+
+abbrev pub key18 : List ℕ
+key18 = 49 ∷ 56 ∷ 47 ∷ []
+
+pub is18 : (s : List ℕ) (r a : Scan) (f : Found18) → a ≡ scan (lit key18) s r → f ≡ found18 0 s a → f ≡ found18 n.amended s (scan (lit key18) s r)
+is18 s r a f e h = h ∙ ap {B = Found18} (λ (x : Scan). found18 0 s x) e ∙ sym (same18 s (scan (lit key18) s r))
+
+pub adds18 : (s : List ℕ) (r : Scan) (f : Found18) → f ≡ found18 n.amended s (scan (lit key18) s r) → Adds key18 (g18 n.amended) s r (with18 f)
+unfolding found22 among occurs spanBy
+adds18 s r f h t = ap {B = Found22} (λ (x : Found18). with18 x (found22 t s (scan (g18 n.amended) s (scan (lit key18) s r)))) h
+
+-- 07 stands alone
+pub alone07 : (s : List ℕ) (r : Scan) (f : Found07) → f ≡ found07 n.amended s (scan (lit key07) s r) → with07 f (nothing22 (f .end)) ≡ found22 (lit key07 ⨾ g07 n.amended) s r
+unfolding found22 nothing22 among occurs spanBy
+alone07 s r f h = ap {B = Found22} (λ (x : Found07). with07 x (nothing22 (x .end))) h
+
+named22 : (s : List ℕ) (r : Scan) → found22 inChanges s r ≡ found22 changes s r
+unfolding found22 among spanBy
+named22 s r = refl
+
+pub found-changes : (s : List ℕ) (r a : Scan) (f : Found07) (p : Plan) (o q : Found22) → a ≡ scan (lit key07) s r → f ≡ found07 0 s a → p ≡ noPlan → o ≡ found22 from08 s r → q ≡ eitherFound22 (record { end = f .end; plan = put n.code (f .code) (put n.aircraft (f .aircraft) p) }) o → q ≡ found22 changes s r
+unfolding nothing22 inChanges
+found-changes s r a f p o q pa pf pp po pq =
+    pq ∙ rw (po, pp)
+    (ap {B = Found22} (λ (x : Found22). eitherFound22 x (found22 from08 s r)) (alone07 s r f (is07 s r a f pa pf)) ∙ found22-alt (lit key07 ⨾ g07 n.amended) from08 s r ∙ named22 s r)
+
+named-tail : (s : List ℕ) (r : Scan) → foundTail inChanged s r ≡ foundTail changed s r
+unfolding foundTail among spanBy
+named-tail s r = refl
+
+-- the ways to begin after field 16
+pub found-changed : (s : List ℕ) (r : Scan) (a b c d x y q : FoundTail) → a ≡ foundTail changes s r → b ≡ foundTail (nothing18 0 ─ changes) s r → c ≡ foundTail (three18 0 ─ changes) s r → d ≡ foundTail (four18 0 ─ changes) s r → x ≡ eitherFoundTail c d → y ≡ eitherFoundTail b x → q ≡ eitherFoundTail a y → q ≡ foundTail changed s r
+unfolding inChanged
+found-changed s r a b c d x y q pa pb pc pd px py pq =
+    let i : x ≡ foundTail (alt (three18 0 ─ changes) (four18 0 ─ changes)) s r = px ∙ rw (pc, pd) (foundTail-alt _ _ s r) in
+    let j : y ≡ foundTail (alt (nothing18 0 ─ changes) (alt (three18 0 ─ changes) (four18 0 ─ changes))) s r = py ∙ rw (pb, i) (foundTail-alt _ _ s r) in
+    let k : q ≡ foundTail inChanged s r = pq ∙ rw (pa, j) (foundTail-alt _ _ s r) in
+    k ∙ named-tail s r

@@ -1,0 +1,371 @@
+// What may stand in a CHG after field 16: its own field 18 or none, then one or more fields 22 in ascending order.
+ghost use mathlib.Core.Path.{_≡_};
+ghost use Rattle.fields.specs.Fields.{nothing18, three18, four18, _─_};
+ghost use Rattle.changes.specs.Changes.{from18 as from18G, from16 as from16G, from15 as from15G, from13 as from13G, from10 as from10G, from09 as from09G, from08 as from08G, changes as changesG, changed as changedG};
+ghost use Rattle.changes.specs.Found.{noPlan, found22, eitherFound22, nothing22, foundTail, eitherFoundTail};
+use scan::Class;
+use scan::Scan;
+use scan::Span;
+
+// Where the parts of fields 07 to 18 stand.
+pub struct Plan {
+    pub aircraft: Span,
+    pub code: Span,
+    pub rules: Span,
+    pub flight: Span,
+    pub count: Span,
+    pub model: Span,
+    pub wake: Span,
+    pub equipment: Span,
+    pub surveillance: Span,
+    pub departure: Span,
+    pub time: Span,
+    pub speed: Span,
+    pub level: Span,
+    pub route: Span,
+    pub destination: Span,
+    pub elapsed: Span,
+    pub alternate: Span,
+    pub alternate2: Span,
+    pub indicator: Span,
+    pub other: Span,
+}
+
+// Fields 22: where they end, and their parts.
+pub struct Found22 {
+    pub end: Scan,
+    pub plan: Plan,
+}
+
+// The same, with the parts of the message's own field 18.
+pub struct FoundTail {
+    pub end: Scan,
+    pub indicator: Span,
+    pub other: Span,
+    pub plan: Plan,
+}
+
+pub fn no_plan() -> Plan
+    ensures { λ q. ⌜ q ≡ noPlan ⌝ }
+{
+    let n = scan::none();
+    Plan {
+        aircraft: n,
+        code: n,
+        rules: n,
+        flight: n,
+        count: n,
+        model: n,
+        wake: n,
+        equipment: n,
+        surveillance: n,
+        departure: n,
+        time: n,
+        speed: n,
+        level: n,
+        route: n,
+        destination: n,
+        elapsed: n,
+        alternate: n,
+        alternate2: n,
+        indicator: n,
+        other: n,
+    }
+}
+
+fn nothing(r: Scan) -> Found22
+    ensures { λ q. ⌜ q ≡ nothing22 r ⌝ }
+{
+    Found22 {
+        end: r,
+        plan: no_plan(),
+    }
+}
+
+// Of two ways to go on the one that leads.
+fn either22(a: Found22, b: Found22) -> Found22
+    ensures { λ q. ⌜ q ≡ eitherFound22 a b ⌝ }
+{
+    let x = a.end;
+    let y = b.end;
+    let end = scan::longer(x, y);
+    if scan::leads(x, y) {
+        let plan = a.plan;
+        return Found22 { end, plan };
+    }
+    let plan = b.plan;
+    Found22 { end, plan }
+}
+
+// Fields 22 from number 18 on.
+fn from18(s: &[u8], r: Scan) -> Found22
+    ensures { λ q. ⌜ q ≡ found22 from18G (now (s .entry)) r ⌝ }
+{
+    let a = scan::lit(s, r, b"18/");
+    let f = fields::field18(s, a);
+    let e = f.end;
+    let end = e;
+    let mut plan = no_plan();
+    let indicator = f.indicator;
+    plan.indicator = indicator;
+    let other = f.other;
+    plan.other = other;
+    Found22 { end, plan }
+}
+
+// Fields 22 from number 16 on.
+fn from16(s: &[u8], r: Scan) -> Found22
+    ensures { λ q. ⌜ q ≡ found22 from16G (now (s .entry)) r ⌝ }
+{
+    if !r.ok {
+        return nothing(r);
+    }
+    let a = scan::lit(s, r, b"16/");
+    let f = fields::field16(s, a);
+    let e = f.end;
+    let b = scan::byte(s, e, b'-');
+    let t = either22(nothing(e), from18(s, b));
+    let end = t.end;
+    let mut plan = t.plan;
+    let destination = f.destination;
+    plan.destination = destination;
+    let elapsed = f.elapsed;
+    plan.elapsed = elapsed;
+    let alternate = f.alternate;
+    plan.alternate = alternate;
+    let alternate2 = f.alternate2;
+    plan.alternate2 = alternate2;
+    either22(Found22 { end, plan }, from18(s, r))
+}
+
+// Fields 22 from number 15 on.
+fn from15(s: &[u8], r: Scan) -> Found22
+    ensures { λ q. ⌜ q ≡ found22 from15G (now (s .entry)) r ⌝ }
+{
+    if !r.ok {
+        return nothing(r);
+    }
+    let a = scan::lit(s, r, b"15/");
+    let f = fields::field15(s, a);
+    let e = f.end;
+    let b = scan::byte(s, e, b'-');
+    let t = either22(nothing(e), from16(s, b));
+    let end = t.end;
+    let mut plan = t.plan;
+    let speed = f.speed;
+    plan.speed = speed;
+    let level = f.level;
+    plan.level = level;
+    let route = f.route;
+    plan.route = route;
+    either22(Found22 { end, plan }, from16(s, r))
+}
+
+// Fields 22 from number 13 on.
+fn from13(s: &[u8], r: Scan) -> Found22
+    ensures { λ q. ⌜ q ≡ found22 from13G (now (s .entry)) r ⌝ }
+{
+    if !r.ok {
+        return nothing(r);
+    }
+    let a = scan::lit(s, r, b"13/");
+    let f = fields::field13(s, a);
+    let e = f.end;
+    let b = scan::byte(s, e, b'-');
+    let t = either22(nothing(e), from15(s, b));
+    let end = t.end;
+    let mut plan = t.plan;
+    let departure = f.departure;
+    plan.departure = departure;
+    let time = f.time;
+    plan.time = time;
+    either22(Found22 { end, plan }, from15(s, r))
+}
+
+// Fields 22 from number 10 on.
+fn from10(s: &[u8], r: Scan) -> Found22
+    ensures { λ q. ⌜ q ≡ found22 from10G (now (s .entry)) r ⌝ }
+{
+    if !r.ok {
+        return nothing(r);
+    }
+    let a = scan::lit(s, r, b"10/");
+    let f = fields::field10(s, a);
+    let e = f.end;
+    let b = scan::byte(s, e, b'-');
+    let t = either22(nothing(e), from13(s, b));
+    let end = t.end;
+    let mut plan = t.plan;
+    let equipment = f.equipment;
+    plan.equipment = equipment;
+    let surveillance = f.surveillance;
+    plan.surveillance = surveillance;
+    either22(Found22 { end, plan }, from13(s, r))
+}
+
+// Fields 22 from number 09 on.
+fn from09(s: &[u8], r: Scan) -> Found22
+    ensures { λ q. ⌜ q ≡ found22 from09G (now (s .entry)) r ⌝ }
+{
+    if !r.ok {
+        return nothing(r);
+    }
+    let a = scan::lit(s, r, b"09/");
+    let f = fields::field09(s, a);
+    let e = f.end;
+    let b = scan::byte(s, e, b'-');
+    let t = either22(nothing(e), from10(s, b));
+    let end = t.end;
+    let mut plan = t.plan;
+    let count = f.count;
+    plan.count = count;
+    let model = f.model;
+    plan.model = model;
+    let wake = f.wake;
+    plan.wake = wake;
+    either22(Found22 { end, plan }, from10(s, r))
+}
+
+// Fields 22 from number 08 on.
+fn from08(s: &[u8], r: Scan) -> Found22
+    ensures { λ q. ⌜ q ≡ found22 from08G (now (s .entry)) r ⌝ }
+{
+    if !r.ok {
+        return nothing(r);
+    }
+    let a = scan::lit(s, r, b"08/");
+    let f = fields::field08(s, a);
+    let e = f.end;
+    let b = scan::byte(s, e, b'-');
+    let t = either22(nothing(e), from09(s, b));
+    let end = t.end;
+    let mut plan = t.plan;
+    let rules = f.rules;
+    plan.rules = rules;
+    let flight = f.flight;
+    plan.flight = flight;
+    either22(Found22 { end, plan }, from09(s, r))
+}
+
+// One or more fields 22; 07 stands alone.
+fn changes(s: &[u8], r: Scan) -> Found22
+    ensures { λ q. ⌜ q ≡ found22 changesG (now (s .entry)) r ⌝ }
+{
+    if !r.ok {
+        return nothing(r);
+    }
+    let a = scan::lit(s, r, b"07/");
+    let f = fields::field07(s, a);
+    let end = f.end;
+    let mut plan = no_plan();
+    let aircraft = f.aircraft;
+    plan.aircraft = aircraft;
+    let code = f.code;
+    plan.code = code;
+    either22(Found22 { end, plan }, from08(s, r))
+}
+
+// Of two ways to go on the one that leads.
+fn either_tail(a: FoundTail, b: FoundTail) -> FoundTail
+    ensures { λ q. ⌜ q ≡ eitherFoundTail a b ⌝ }
+{
+    let x = a.end;
+    let y = b.end;
+    let end = scan::longer(x, y);
+    let indicator = scan::either(x, y, a.indicator, b.indicator);
+    let other = scan::either(x, y, a.other, b.other);
+    if scan::leads(x, y) {
+        let plan = a.plan;
+        return FoundTail {
+            end,
+            indicator,
+            other,
+            plan,
+        };
+    }
+    let plan = b.plan;
+    FoundTail {
+        end,
+        indicator,
+        other,
+        plan,
+    }
+}
+
+// No field 18.
+fn without18(s: &[u8], r: Scan) -> FoundTail
+    ensures { λ q. ⌜ q ≡ foundTail changesG (now (s .entry)) r ⌝ }
+{
+    let f = changes(s, r);
+    let end = f.end;
+    let plan = f.plan;
+    FoundTail {
+        end,
+        indicator: scan::none(),
+        other: scan::none(),
+        plan,
+    }
+}
+
+// Field 18 is "0".
+fn with_nothing18(s: &[u8], r: Scan) -> FoundTail
+    ensures { λ q. ⌜ q ≡ foundTail (nothing18 0 ─ changesG) (now (s .entry)) r ⌝ }
+{
+    let a = scan::byte(s, r, b'0');
+    let f = changes(s, scan::byte(s, a, b'-'));
+    let end = f.end;
+    let plan = f.plan;
+    FoundTail {
+        end,
+        indicator: scan::between(r, a),
+        other: scan::none(),
+        plan,
+    }
+}
+
+// Field 18 begins with three letters.
+fn with_three18(s: &[u8], r: Scan) -> FoundTail
+    ensures { λ q. ⌜ q ≡ foundTail (three18 0 ─ changesG) (now (s .entry)) r ⌝ }
+{
+    let a = scan::run(s, r, Class::Letter, 3, 3);
+    let b = scan::byte(s, a, b'/');
+    let c = scan::words(s, b, 296);
+    let f = changes(s, scan::byte(s, c, b'-'));
+    let end = f.end;
+    let plan = f.plan;
+    FoundTail {
+        end,
+        indicator: scan::between(r, a),
+        other: scan::between(b, c),
+        plan,
+    }
+}
+
+// Field 18 begins with four letters.
+fn with_four18(s: &[u8], r: Scan) -> FoundTail
+    ensures { λ q. ⌜ q ≡ foundTail (four18 0 ─ changesG) (now (s .entry)) r ⌝ }
+{
+    let a = scan::run(s, r, Class::Letter, 4, 4);
+    let b = scan::byte(s, a, b'/');
+    let c = scan::words(s, b, 295);
+    let f = changes(s, scan::byte(s, c, b'-'));
+    let end = f.end;
+    let plan = f.plan;
+    FoundTail {
+        end,
+        indicator: scan::between(r, a),
+        other: scan::between(b, c),
+        plan,
+    }
+}
+
+// Field 18 or none, then one or more fields 22.
+pub fn changed(s: &[u8], r: Scan) -> FoundTail
+    ensures { λ q. ⌜ q ≡ foundTail changedG (now (s .entry)) r ⌝ }
+{
+    let a = without18(s, r);
+    let b = with_nothing18(s, r);
+    let c = with_three18(s, r);
+    let d = with_four18(s, r);
+    either_tail(a, either_tail(b, either_tail(c, d)))
+}

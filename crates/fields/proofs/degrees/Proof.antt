@@ -1,0 +1,27 @@
+use borrow.Author.Needs.{needs}
+use Rattle.fields.specs.Fields.{degrees}
+use Rattle.fields.proofs.degrees.Statement.{statement}
+use Rattle.fields.proofs.degrees.Tie as tie
+
+pub degrees-spec : {M : Type 1} → statement M
+unfolding degrees
+degrees-spec =
+    tie.close
+    (tie.spec
+    (λ c κs. tt)
+    (λ c κs. tt)
+    (λ c. search needs)
+    (λ c κs. tt)
+    (λ c κs. tt)
+    (λ c κs. tt)
+    (λ c κs. tt)
+    (λ c κs. tt)
+    (λ c κs. tt)
+    (λ c κs. tt)
+    (λ c κs. tt)
+    (λ c. search needs)
+    (λ c κs. tt)
+    (λ c κs. tt)
+    (λ c κs. tt)
+    (λ c κs. tt)
+    (λ c. rw (c .one6 .ensures, c .before .longer3 .ensures, c .before .before .longer2 .ensures, c .before .before .before .lit2 .ensures, c .before .before .before .before .before .one5 .ensures, c .before .before .before .before .before .before .one4 .ensures, c .before .before .before .before .before .before .before .byte2 .ensures, c .before .before .before .before .before .before .before .before .run .ensures, c .before .before .before .before .before .before .before .before .before .byte .ensures, c .before .before .before .before .before .before .before .before .before .before .one3 .ensures, c .before .before .before .before .before .before .before .before .before .before .before .longer .ensures, c .before .before .before .before .before .before .before .before .before .before .before .before .lit .ensures, c .before .before .before .before .before .before .before .before .before .before .before .before .before .before .one2 .ensures, c .before .before .before .before .before .before .before .before .before .before .before .before .before .before .before .one .ensures)))

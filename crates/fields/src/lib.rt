@@ -1,0 +1,472 @@
+// Document 01's fields: each function mirrors the grammar of one field and notes where its parts stand.
+ghost use mathlib.Core.Path.{_≡_};
+ghost use Prim.Native.Nat.{_≤_};
+ghost use Rattle.scan.specs.Scanner.{scan as scanG};
+ghost use Rattle.fields.specs.Fields.{counted as countedG, hour as hourG, minute as minuteG, timed, level3 as level3G, level4 as level4G, levelled, bearing as bearingG, bearingFrom, degrees as degreesG, minutes as minutesG, pointed};
+ghost use Rattle.fields.specs.Found.{foundNumber, found07, found08, found09, found10, found13, found13o, found14, foundRouted, eitherFound15, foundAfter15, foundSped, found15, foundAlternates, found16, found18};
+use scan::Class;
+use scan::Scan;
+use scan::Span;
+
+// The parts of each field, and where it ends.
+pub struct FoundNumber {
+    pub end: Scan,
+    pub sender: Span,
+    pub receiver: Span,
+    pub digits: Span,
+}
+
+pub struct Found07 {
+    pub end: Scan,
+    pub aircraft: Span,
+    pub code: Span,
+}
+
+pub struct Found08 {
+    pub end: Scan,
+    pub rules: Span,
+    pub flight: Span,
+}
+
+pub struct Found09 {
+    pub end: Scan,
+    pub count: Span,
+    pub model: Span,
+    pub wake: Span,
+}
+
+pub struct Found10 {
+    pub end: Scan,
+    pub equipment: Span,
+    pub surveillance: Span,
+}
+
+pub struct Found13 {
+    pub end: Scan,
+    pub departure: Span,
+    pub time: Span,
+}
+
+pub struct Found14 {
+    pub end: Scan,
+    pub point: Span,
+    pub over: Span,
+    pub crossing: Span,
+    pub second: Span,
+    pub sense: Span,
+}
+
+pub struct Found15 {
+    pub end: Scan,
+    pub speed: Span,
+    pub level: Span,
+    pub route: Span,
+}
+
+pub struct Found16 {
+    pub end: Scan,
+    pub destination: Span,
+    pub elapsed: Span,
+    pub alternate: Span,
+    pub alternate2: Span,
+}
+
+pub struct Found18 {
+    pub end: Scan,
+    pub indicator: Span,
+    pub other: Span,
+}
+
+// A message number, or a reference.
+pub fn number(s: &[u8], r: Scan) -> FoundNumber
+    ensures { λ q. ⌜ q ≡ foundNumber (now (s .entry)) r ⌝ }
+{
+    let a = scan::run(s, r, Class::Letter, 4, 4);
+    let b = scan::byte(s, a, b'/');
+    let c = scan::run(s, b, Class::Letter, 4, 4);
+    let d = scan::run(s, c, Class::Digit, 3, 3);
+    FoundNumber {
+        end: d,
+        sender: scan::between(r, a),
+        receiver: scan::between(b, c),
+        digits: scan::between(c, d),
+    }
+}
+
+pub fn field07(s: &[u8], r: Scan) -> Found07
+    ensures { λ q. ⌜ q ≡ found07 0 (now (s .entry)) r ⌝ }
+{
+    let a = scan::run(s, r, Class::Alnum, 2, 7);
+    let aircraft = scan::between(r, a);
+    let b = scan::lit(s, a, b"/A");
+    let c = scan::run(s, b, Class::Octal, 4, 4);
+    let code = scan::either(a, c, scan::none(), scan::between(b, c));
+    Found07 {
+        end: scan::longer(a, c),
+        aircraft,
+        code,
+    }
+}
+
+pub fn field08(s: &[u8], r: Scan) -> Found08
+    ensures { λ q. ⌜ q ≡ found08 0 (now (s .entry)) r ⌝ }
+{
+    let a = scan::one(s, r, Class::Of(b'I', b'V', b'Y', b'Z', b'Z'));
+    let rules = scan::between(r, a);
+    let b = scan::one(s, a, Class::Of(b'S', b'N', b'G', b'M', b'X'));
+    let flight = scan::either(a, b, scan::none(), scan::between(a, b));
+    Found08 {
+        end: scan::longer(a, b),
+        rules,
+        flight,
+    }
+}
+
+// A number 2 to 99 without leading zero.
+fn counted(s: &[u8], r: Scan) -> Scan
+    ensures { λ q. ⌜ q ≡ scanG countedG (now (s .entry)) r ⌝ }
+{
+    let a = scan::one(s, r, Class::Range(b'2', b'9'));
+    let b = scan::one(s, r, Class::Range(b'1', b'9'));
+    scan::longer(a, scan::one(s, b, Class::Digit))
+}
+
+pub fn field09(s: &[u8], r: Scan) -> Found09
+    ensures { λ q. ⌜ q ≡ found09 0 (now (s .entry)) r ⌝ }
+{
+    let n = counted(s, r);
+    let count = scan::either(r, n, scan::none(), scan::between(r, n));
+    let a = scan::longer(r, n);
+    let l = scan::one(s, a, Class::Letter);
+    let b = scan::run(s, l, Class::Alnum, 1, 3);
+    let model = scan::between(a, b);
+    let c = scan::byte(s, b, b'/');
+    let d = scan::one(s, c, Class::Of(b'L', b'M', b'H', b'H', b'H'));
+    let wake = scan::between(c, d);
+    Found09 {
+        end: d,
+        count,
+        model,
+        wake,
+    }
+}
+
+pub fn field10(s: &[u8], r: Scan) -> Found10
+    ensures { λ q. ⌜ q ≡ found10 0 (now (s .entry)) r ⌝ }
+{
+    let a = scan::run(s, r, Class::Alnum, 1, 40);
+    let equipment = scan::between(r, a);
+    let b = scan::byte(s, a, b'/');
+    let c = scan::run(s, b, Class::Alnum, 1, 20);
+    let surveillance = scan::between(b, c);
+    Found10 {
+        end: c,
+        equipment,
+        surveillance,
+    }
+}
+
+fn hour(s: &[u8], r: Scan) -> Scan
+    ensures { λ q. ⌜ q ≡ scanG hourG (now (s .entry)) r ⌝ }
+{
+    let a = scan::one(s, r, Class::Range(b'0', b'1'));
+    let b = scan::byte(s, r, b'2');
+    scan::longer(
+        scan::one(s, a, Class::Digit),
+        scan::one(s, b, Class::Range(b'0', b'3')),
+    )
+}
+
+fn minute(s: &[u8], r: Scan) -> Scan
+    ensures { λ q. ⌜ q ≡ scanG minuteG (now (s .entry)) r ⌝ }
+{
+    let a = scan::one(s, r, Class::Range(b'0', b'5'));
+    scan::one(s, a, Class::Digit)
+}
+
+// 0000 to 2359.
+fn time(s: &[u8], r: Scan) -> Scan
+    ensures { λ q. ⌜ q ≡ scanG timed (now (s .entry)) r ⌝ }
+{
+    minute(s, hour(s, r))
+}
+
+pub fn field13(s: &[u8], r: Scan) -> Found13
+    ensures { λ q. ⌜ q ≡ found13 0 (now (s .entry)) r ⌝ }
+{
+    let a = scan::run(s, r, Class::Letter, 4, 4);
+    let departure = scan::between(r, a);
+    let b = time(s, a);
+    let time = scan::between(a, b);
+    Found13 {
+        end: b,
+        departure,
+        time,
+    }
+}
+
+// The time is optional.
+pub fn field13o(s: &[u8], r: Scan) -> Found13
+    ensures { λ q. ⌜ q ≡ found13o (now (s .entry)) r ⌝ }
+{
+    let a = scan::run(s, r, Class::Letter, 4, 4);
+    let departure = scan::between(r, a);
+    let b = time(s, a);
+    let time = scan::either(a, b, scan::none(), scan::between(a, b));
+    Found13 {
+        end: scan::longer(a, b),
+        departure,
+        time,
+    }
+}
+
+// F or A with three digits.
+fn level3(s: &[u8], r: Scan) -> Scan
+    ensures { λ q. ⌜ q ≡ scanG level3G (now (s .entry)) r ⌝ }
+{
+    let a = scan::one(s, r, Class::Of(b'F', b'A', b'A', b'A', b'A'));
+    scan::run(s, a, Class::Digit, 3, 3)
+}
+
+// S or M with four digits.
+fn level4(s: &[u8], r: Scan) -> Scan
+    ensures { λ q. ⌜ q ≡ scanG level4G (now (s .entry)) r ⌝ }
+{
+    let a = scan::one(s, r, Class::Of(b'S', b'M', b'M', b'M', b'M'));
+    scan::run(s, a, Class::Digit, 4, 4)
+}
+
+fn level(s: &[u8], r: Scan) -> Scan
+    ensures { λ q. ⌜ q ≡ scanG levelled (now (s .entry)) r ⌝ }
+{
+    let a = level3(s, r);
+    scan::longer(a, level4(s, r))
+}
+
+// 000 to 360.
+fn bearing(s: &[u8], r: Scan) -> Scan
+    ensures { λ q. ⌜ q ≡ scanG bearingG (now (s .entry)) r ⌝ }
+{
+    let a = scan::one(s, r, Class::Range(b'0', b'2'));
+    let b = scan::run(s, a, Class::Digit, 2, 2);
+    let c = scan::byte(s, r, b'3');
+    let d = scan::one(s, c, Class::Range(b'0', b'5'));
+    let e = scan::one(s, d, Class::Digit);
+    let f = scan::lit(s, c, b"60");
+    scan::longer(b, scan::longer(e, f))
+}
+
+// A name of k letters or digits, with bearing and distance.
+fn bearing_from(s: &[u8], r: Scan, k: usize) -> Scan
+    ensures { λ q. ⌜ q ≡ scanG (bearingFrom k) (now (s .entry)) r ⌝ }
+{
+    let a = scan::run(s, r, Class::Alnum, k, k);
+    let b = bearing(s, a);
+    scan::run(s, b, Class::Digit, 3, 3)
+}
+
+// As 46N078W.
+fn degrees(s: &[u8], r: Scan) -> Scan
+    ensures { λ q. ⌜ q ≡ scanG degreesG (now (s .entry)) r ⌝ }
+{
+    let a = scan::one(s, r, Class::Range(b'0', b'8'));
+    let b = scan::one(s, a, Class::Digit);
+    let c = scan::longer(b, scan::lit(s, r, b"90"));
+    let d = scan::one(s, c, Class::Of(b'N', b'S', b'S', b'S', b'S'));
+    let e = scan::byte(s, d, b'0');
+    let f = scan::run(s, e, Class::Digit, 2, 2);
+    let g = scan::byte(s, d, b'1');
+    let h = scan::one(s, g, Class::Range(b'0', b'7'));
+    let i = scan::one(s, h, Class::Digit);
+    let j = scan::longer(i, scan::lit(s, g, b"80"));
+    let k = scan::longer(f, j);
+    scan::one(s, k, Class::Of(b'E', b'W', b'W', b'W', b'W'))
+}
+
+// As 4620N07805W.
+fn minutes(s: &[u8], r: Scan) -> Scan
+    ensures { λ q. ⌜ q ≡ scanG minutesG (now (s .entry)) r ⌝ }
+{
+    let a = scan::one(s, r, Class::Range(b'0', b'8'));
+    let b = minute(s, scan::one(s, a, Class::Digit));
+    let c = scan::longer(b, scan::lit(s, r, b"9000"));
+    let d = scan::one(s, c, Class::Of(b'N', b'S', b'S', b'S', b'S'));
+    let e = scan::byte(s, d, b'0');
+    let f = minute(s, scan::run(s, e, Class::Digit, 2, 2));
+    let g = scan::byte(s, d, b'1');
+    let h = scan::one(s, g, Class::Range(b'0', b'7'));
+    let i = minute(s, scan::one(s, h, Class::Digit));
+    let j = scan::longer(i, scan::lit(s, g, b"8000"));
+    let k = scan::longer(f, j);
+    scan::one(s, k, Class::Of(b'E', b'W', b'W', b'W', b'W'))
+}
+
+fn point(s: &[u8], r: Scan) -> Scan
+    ensures { λ q. ⌜ q ≡ scanG pointed (now (s .entry)) r ⌝ }
+{
+    let a = scan::run(s, r, Class::Alnum, 2, 5);
+    let b = bearing_from(s, r, 2);
+    let c = bearing_from(s, r, 3);
+    let d = bearing_from(s, r, 4);
+    let e = bearing_from(s, r, 5);
+    let f = scan::longer(b, scan::longer(c, scan::longer(d, e)));
+    let g = scan::longer(degrees(s, r), minutes(s, r));
+    scan::longer(a, scan::longer(f, g))
+}
+
+pub fn field14(s: &[u8], r: Scan) -> Found14
+    ensures { λ q. ⌜ q ≡ found14 (now (s .entry)) r ⌝ }
+{
+    let a = point(s, r);
+    let b = scan::byte(s, a, b'/');
+    let c = time(s, b);
+    let d = level(s, c);
+    let e = level(s, d);
+    let f = scan::one(s, e, Class::Of(b'A', b'B', b'B', b'B', b'B'));
+    let second = scan::either(d, f, scan::none(), scan::between(d, e));
+    let sense = scan::either(d, f, scan::none(), scan::between(e, f));
+    Found14 {
+        end: scan::longer(d, f),
+        point: scan::between(r, a),
+        over: scan::between(b, c),
+        crossing: scan::between(c, d),
+        second,
+        sense,
+    }
+}
+
+// A level that was scanned from r to l, then a blank and words of at most k bytes.
+fn routed(s: &[u8], r: Scan, l: Scan, k: usize) -> Found15
+    requires { ⌜ r .next ≤ l .next ⌝ }
+    ensures { λ q. ⌜ q ≡ foundRouted (now (s .entry)) r l k ⌝ }
+{
+    let b = scan::byte(s, l, b' ');
+    let w = scan::words(s, b, k);
+    Found15 {
+        end: w,
+        speed: scan::none(),
+        level: scan::between(r, l),
+        route: scan::between(b, w),
+    }
+}
+
+// Of two ways to go on in field 15 the one that leads.
+fn either15(a: Found15, b: Found15) -> Found15
+    ensures { λ q. ⌜ q ≡ eitherFound15 a b ⌝ }
+{
+    Found15 {
+        end: scan::longer(a.end, b.end),
+        speed: scan::either(a.end, b.end, a.speed, b.speed),
+        level: scan::either(a.end, b.end, a.level, b.level),
+        route: scan::either(a.end, b.end, a.route, b.route),
+    }
+}
+
+// Field 15 after its speed, of which k bytes are left.
+fn after15(s: &[u8], r: Scan, k: usize) -> Found15
+    requires { ⌜ 6 ≤ k ⌝ }
+    ensures { λ q. ⌜ q ≡ foundAfter15 k (now (s .entry)) r ⌝ }
+{
+    let a = routed(s, r, level3(s, r), k - 5);
+    let b = routed(s, r, level4(s, r), k - 6);
+    let c = routed(s, r, scan::lit(s, r, b"VFR"), k - 4);
+    either15(a, either15(b, c))
+}
+
+// Field 15 with a speed that was scanned from r to v, and k bytes left.
+fn sped(s: &[u8], r: Scan, v: Scan, k: usize) -> Found15
+    requires { ⌜ (6 ≤ k) × (r .next ≤ v .next) ⌝ }
+    ensures { λ q. ⌜ q ≡ foundSped (now (s .entry)) r v k ⌝ }
+{
+    let speed = scan::between(r, v);
+    let a = after15(s, v, k);
+    let end = a.end;
+    let level = a.level;
+    let route = a.route;
+    Found15 {
+        end,
+        speed,
+        level,
+        route,
+    }
+}
+
+pub fn field15(s: &[u8], r: Scan) -> Found15
+    ensures { λ q. ⌜ q ≡ found15 0 (now (s .entry)) r ⌝ }
+{
+    let a = scan::one(s, r, Class::Of(b'K', b'N', b'N', b'N', b'N'));
+    let b = sped(s, r, scan::run(s, a, Class::Digit, 4, 4), 295);
+    let d = scan::byte(s, r, b'M');
+    let e = sped(s, r, scan::run(s, d, Class::Digit, 3, 3), 296);
+    either15(b, e)
+}
+
+// Up to two alternates, each a blank and four letters.
+fn alternates(s: &[u8], r: Scan) -> Found16
+    ensures { λ q. ⌜ q ≡ foundAlternates (now (s .entry)) r ⌝ }
+{
+    let a = scan::byte(s, r, b' ');
+    let b = scan::run(s, a, Class::Letter, 4, 4);
+    let c = scan::byte(s, b, b' ');
+    let d = scan::run(s, c, Class::Letter, 4, 4);
+    let e = scan::longer(b, d);
+    let two = scan::either(b, d, scan::none(), scan::between(c, d));
+    Found16 {
+        end: scan::longer(r, e),
+        destination: scan::none(),
+        elapsed: scan::none(),
+        alternate: scan::either(r, e, scan::none(), scan::between(a, b)),
+        alternate2: scan::either(r, e, scan::none(), two),
+    }
+}
+
+pub fn field16(s: &[u8], r: Scan) -> Found16
+    ensures { λ q. ⌜ q ≡ found16 0 (now (s .entry)) r ⌝ }
+{
+    let a = scan::run(s, r, Class::Letter, 4, 4);
+    let destination = scan::between(r, a);
+    let h = scan::run(s, a, Class::Digit, 2, 2);
+    let b = minute(s, h);
+    let elapsed = scan::either(a, b, scan::none(), scan::between(a, b));
+    let c = alternates(s, scan::longer(a, b));
+    let end = c.end;
+    let alternate = c.alternate;
+    let alternate2 = c.alternate2;
+    Found16 {
+        end,
+        destination,
+        elapsed,
+        alternate,
+        alternate2,
+    }
+}
+
+pub fn field18(s: &[u8], r: Scan) -> Found18
+    ensures { λ q. ⌜ q ≡ found18 0 (now (s .entry)) r ⌝ }
+{
+    let a = scan::byte(s, r, b'0');
+    let b = scan::run(s, r, Class::Letter, 3, 3);
+    let c = scan::byte(s, b, b'/');
+    let d = scan::words(s, c, 296);
+    let e = scan::run(s, r, Class::Letter, 4, 4);
+    let f = scan::byte(s, e, b'/');
+    let g = scan::words(s, f, 295);
+    let h = scan::longer(d, g);
+    let indicator = scan::either(
+        a,
+        h,
+        scan::between(r, a),
+        scan::either(d, g, scan::between(r, b), scan::between(r, e)),
+    );
+    let other = scan::either(
+        a,
+        h,
+        scan::none(),
+        scan::either(d, g, scan::between(c, d), scan::between(f, g)),
+    );
+    Found18 {
+        end: scan::longer(a, h),
+        indicator,
+        other,
+    }
+}

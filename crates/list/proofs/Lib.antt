@@ -1,0 +1,5 @@
+pub mod Splicing
+pub mod Decimals
+pub mod Lines
+pub mod Progressing
+pub mod Examples

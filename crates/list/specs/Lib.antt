@@ -1,0 +1,4 @@
+pub mod Listing
+pub mod Numbers
+pub mod Splices
+pub mod Progress

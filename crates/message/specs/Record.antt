@@ -1,0 +1,144 @@
+-- The record of a read text: its type, its numbers and where every part of its fields stands.
+use mathlib.Core.Bool.{Bool, true, false, cond, _&&_}
+use mathlib.Core.List.{List, [], _∷_}
+use Prim.Native.Nat.{ℕ, zero, suc, _+_, _-_, _*_}
+use lib.ListN.{length, getD, take, drop}
+use lib.Dec.{leb, eqb}
+use Rattle.scan.specs.declared.Span.{Span}
+use Rattle.scan.specs.Grammar.{Part, look, none}
+use Rattle.fields.specs.Names as n
+use Rattle.changes.specs.Found.{planOf, amendedPlan}
+use Rattle.message.specs.declared.Kind.{Kind}
+use Rattle.message.specs.declared.Kind.the-variants.{None, Fpl, Cpl, Est, Chg, Cnl, Rti, Rta, Rla, Lam, Lrm}
+use Rattle.message.specs.declared.LevelKind.{LevelKind}
+use Rattle.message.specs.declared.LevelKind.the-variants.{Absent, FlightLevel, Altitude, MetricLevel, MetricAltitude, Vfr}
+use Rattle.message.specs.declared.PointForm.{PointForm}
+use Rattle.message.specs.declared.PointForm.the-variants.{NoPoint, Name, Bearing, Degrees, Minutes}
+use Rattle.message.specs.declared.Level.{Level}
+use Rattle.changes.specs.declared.Plan.{Plan}
+use Rattle.message.specs.declared.Parts.{Parts}
+use Rattle.message.specs.declared.PlanFigures.{PlanFigures}
+use Rattle.message.specs.declared.Figures.{Figures}
+use Rattle.message.specs.declared.Record.{Record}
+
+-- where every part stands, f saying where the part of a name does
+abbrev pub partsOf : (ℕ → Span) → Parts
+partsOf f = record {
+  number = record { sender = f n.sender; receiver = f n.receiver; digits = f n.number };
+  reference = record { sender = f n.referenceSender; receiver = f n.referenceReceiver; digits = f n.referenceNumber };
+  own = planOf f;
+  estimate = record { point = f n.point; over = f n.over; crossing = f n.crossing; second = f n.second; sense = f n.sense };
+  changes = amendedPlan f;
+  sector = f n.sector;
+  track = f n.track;
+  reason = f n.reason;
+}
+
+-- the number that k digits stand for, which stand at `at`
+unfoldable pub figure : ℕ → List ℕ → ℕ → ℕ
+figure zero s at = 0
+figure (suc k) s at = figure k s at * 10 + (getD s (at + k) 0 - 48)
+
+-- no number of document 01 has more than four digits
+abbrev pub figureAt : ℕ → List ℕ → ℕ → ℕ
+figureAt k s at = cond (leb k 4) (figure k s at) 0
+
+abbrev pub figureIn : List ℕ → Span → ℕ
+figureIn s p = figureAt (p .len) s (p .at)
+
+-- three letters as one number
+abbrev pub lettersAs : ℕ → ℕ → ℕ → ℕ
+lettersAs a b c = a * 65536 + b * 256 + c
+
+-- the three letters of a text's type
+abbrev pub lettersOf : List ℕ → ℕ
+lettersOf s = lettersAs (getD s 1 0) (getD s 2 0) (getD s 3 0)
+
+-- the type that they name
+unfoldable pub kindOf : ℕ → Kind
+kindOf w =
+    cond (eqb w (lettersAs 70 80 76)) Fpl
+    (cond (eqb w (lettersAs 67 80 76)) Cpl
+    (cond (eqb w (lettersAs 69 83 84)) Est
+    (cond (eqb w (lettersAs 67 72 71)) Chg
+    (cond (eqb w (lettersAs 67 78 76)) Cnl
+    (cond (eqb w (lettersAs 82 84 73)) Rti
+    (cond (eqb w (lettersAs 82 84 65)) Rta
+    (cond (eqb w (lettersAs 82 76 65)) Rla
+    (cond (eqb w (lettersAs 76 65 77)) Lam
+    (cond (eqb w (lettersAs 76 82 77)) Lrm None)))))))))
+
+unfoldable pub isChg : Kind → Bool
+isChg None = false
+isChg Fpl = false
+isChg Cpl = false
+isChg Est = false
+isChg Chg = true
+isChg Cnl = false
+isChg Rti = false
+isChg Rta = false
+isChg Rla = false
+isChg Lam = false
+isChg Lrm = false
+
+-- what kind of level a letter says
+unfoldable pub levelKindOf : ℕ → LevelKind
+levelKindOf b =
+    cond (eqb b 70) FlightLevel
+    (cond (eqb b 65) Altitude
+    (cond (eqb b 83) MetricLevel
+    (cond (eqb b 77) MetricAltitude Absent)))
+
+-- a level's kind, and its figure: the digits after the letter. What has three bytes is VFR, which has none
+unfoldable pub levelIn : List ℕ → Span → Level
+levelIn s p =
+    cond (eqb (p .len) 0) (record { kind = Absent; figure = 0 })
+    (cond (eqb (p .len) 3) (record { kind = Vfr; figure = 0 }) (record { kind = levelKindOf (getD s (p .at) 0); figure = figureAt (p .len - 1) s (p .at + 1) }))
+
+-- the form of a point: at most 5 bytes are a name; an E or W at the end of more is that of a longitude, in degrees
+-- where there are 7 bytes; the rest has bearing and distance
+unfoldable pub formIn : List ℕ → Span → PointForm
+formIn s p =
+    cond (eqb (p .len) 0) NoPoint
+    (cond (leb (p .len) 5) Name
+    (cond (eqb (p .len) 7) Degrees
+    (cond (leb 65 (getD s (p .at + p .len - 1) 0)) Minutes Bearing)))
+
+abbrev pub planFiguresOf : List ℕ → Plan → PlanFigures
+planFiguresOf s p = record { count = figureIn s (p .count); level = levelIn s (p .level) }
+
+abbrev pub figuresOf : List ℕ → Parts → Figures
+figuresOf s p = record {
+  number = figureIn s (p .number .digits);
+  reference = figureIn s (p .reference .digits);
+  own = planFiguresOf s (p .own);
+  form = formIn s (p .estimate .point);
+  crossing = levelIn s (p .estimate .crossing);
+  second = levelIn s (p .estimate .second);
+  changes = planFiguresOf s (p .changes);
+  reason = figureIn s (p .reason);
+}
+
+abbrev pub recordBy : List ℕ → (ℕ → Span) → Record
+recordBy s f = record { kind = kindOf (lettersOf s); parts = partsOf f; figures = figuresOf s (partsOf f) }
+
+-- THE RECORD of a text whose parts are ps
+abbrev pub recordOf : List ℕ → List Part → Record
+recordOf s ps = recordBy s (λ k. look k ps)
+
+-- what is handed back beside a refusal
+abbrev pub blank : Record
+blank = record {
+  kind = None;
+  parts = partsOf (λ _. none);
+  figures = record {
+    number = 0;
+    reference = 0;
+    own = record { count = 0; level = record { kind = Absent; figure = 0 } };
+    form = NoPoint;
+    crossing = record { kind = Absent; figure = 0 };
+    second = record { kind = Absent; figure = 0 };
+    changes = record { count = 0; level = record { kind = Absent; figure = 0 } };
+    reason = 0;
+  };
+}

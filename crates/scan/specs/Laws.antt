@@ -1,0 +1,98 @@
+-- What the loops of the code need of the scanner: how it stops, and one step of it.
+use mathlib.Core.Path.{_≡_, refl, sym, ap, _∙_}
+use mathlib.Core.Bool.{Bool, true, false, cond, _&&_, _||_}
+use mathlib.Core.List.{List, [], _∷_}
+use Prim.Native.Nat.{ℕ, zero, suc, _+_, _-_, _≤_, _<_}
+use native.Mathlib.Omega.{arith}
+use native.Mathlib.Numerals.{add-one}
+use lib.ListN.{length, getD, drop, drop-of-length-le}
+use lib.Seq.{drop-cons}
+use Rattle.scan.specs.Texts.{lit, byte}
+use lib.Dec.{leb, ltb, leb·suc-suc}
+use borrow.Author.Tests.{lt-ltb, le-ltb}
+use Rattle.scan.specs.declared.Scan.{Scan}
+use Rattle.scan.specs.declared.Class.{Class}
+use Rattle.scan.specs.declared.Class.the-variants.{Word, Byte}
+use Rattle.scan.specs.Grammar.{isIn, G, run}
+use Rattle.scan.specs.Scanner.{scan, runAt, runScan, wordsAt, wordsScan}
+
+module _ (c : Class) (s : List ℕ) (i : ℕ) where
+  pub run-none : (k : ℕ) → k ≤ 0 → runAt c k s i ≡ i
+  unfolding runAt
+  run-none zero h = refl
+  run-none (suc k) h = absurd (omega arith)
+
+  pub run-past : (k : ℕ) → length s ≤ i → runAt c k s i ≡ i
+  unfolding runAt
+  run-past zero h = refl
+  run-past (suc k) h = rw (le-ltb i (length s) h)
+
+  pub run-off : (k : ℕ) → i < length s → isIn c (getD s i 0) ≡ false → runAt c k s i ≡ i
+  unfolding runAt
+  run-off zero h e = refl
+  run-off (suc k) h e = rw (lt-ltb i (length s) h, e)
+
+  pub run-on : (k : ℕ) → 0 < k → i < length s → isIn c (getD s i 0) ≡ true → runAt c k s i ≡ runAt c (k - 1) s (i + 1)
+  unfolding runAt
+  run-on zero z h e = absurd (omega arith)
+  run-on (suc k) z h e = let n : suc k - 1 ≡ k = omega arith in rw (lt-ltb i (length s) h, e, n)
+
+pub run-is : (c : Class) (lo hi : ℕ) (s : List ℕ) (r : Scan) (i j : ℕ) → r .ok ≡ true → j ≡ runAt c hi s (r .next) → j ≡ i → record { next = i; ok = leb lo (i - r .next) } ≡ runScan c lo hi s r
+unfolding runScan
+run-is c lo hi s r i j o e f = rw (o, sym f ∙ e)
+
+pub run-skip : (c : Class) (lo hi : ℕ) (s : List ℕ) (r : Scan) → r .ok ≡ false → r ≡ runScan c lo hi s r
+unfolding runScan
+run-skip c lo hi s r o = rw o
+
+abbrev pub ended : ℕ → Bool → Scan
+ended i m = record { next = i; ok = m }
+
+module _ (s : List ℕ) (i : ℕ) where
+  pub words-none : (m : Bool) (k : ℕ) → k ≤ 0 → wordsAt k m s i ≡ ended i m
+  unfolding wordsAt
+  words-none m zero h = refl
+  words-none m (suc k) h = absurd (omega arith)
+
+  pub words-past : (m : Bool) (k : ℕ) → length s ≤ i → wordsAt k m s i ≡ ended i m
+  unfolding wordsAt
+  words-past m zero h = refl
+  words-past m (suc k) h = rw (le-ltb i (length s) h)
+
+  pub words-on : (m : Bool) (k : ℕ) → 0 < k → i < length s → isIn Word (getD s i 0) ≡ true → wordsAt k m s i ≡ wordsAt (k - 1) true s (i + 1)
+  unfolding wordsAt
+  words-on m zero z h e = absurd (omega arith)
+  words-on m (suc k) z h e = let n : suc k - 1 ≡ k = omega arith in rw (lt-ltb i (length s) h, e, n)
+
+  pub words-gap : (m : Bool) (k : ℕ) → 0 < k → i < length s → isIn Word (getD s i 0) ≡ false → m && isIn (Byte 32) (getD s i 0) && ltb 1 k ≡ true → wordsAt k m s i ≡ wordsAt (k - 1) false s (i + 1)
+  unfolding wordsAt
+  words-gap m zero z h e f = absurd (omega arith)
+  words-gap m (suc k) z h e f =
+      let n : suc k - 1 ≡ k = omega arith in
+      let g : m && isIn (Byte 32) (getD s i 0) && ltb 0 k ≡ true = rw (← leb·suc-suc 1 k) f in
+      rw (lt-ltb i (length s) h, e, g, n)
+
+  pub words-off : (m : Bool) (k : ℕ) → i < length s → isIn Word (getD s i 0) ≡ false → m && isIn (Byte 32) (getD s i 0) && ltb 1 k ≡ false → wordsAt k m s i ≡ ended i m
+  unfolding wordsAt
+  words-off m zero h e f = refl
+  words-off m (suc k) h e f =
+      let g : m && isIn (Byte 32) (getD s i 0) && ltb 0 k ≡ false = rw (← leb·suc-suc 1 k) f in
+      rw (lt-ltb i (length s) h, e, g)
+
+pub words-is : (k : ℕ) (s : List ℕ) (r : Scan) (j q : Scan) → r .ok ≡ true → j ≡ wordsAt k false s (r .next) → j ≡ q → q ≡ wordsScan k s r
+unfolding wordsScan
+words-is k s r j q o e f = rw o (sym f ∙ e)
+
+pub words-skip : (k : ℕ) (s : List ℕ) (r : Scan) → r .ok ≡ false → r ≡ wordsScan k s r
+unfolding wordsScan
+words-skip k s r o = rw o
+
+module _ (w s : List ℕ) (i : ℕ) (q : Scan) where
+  pub lit-step : i < length w → scan (lit (drop i w)) s q ≡ scan (lit (drop (i + 1) w)) s (scan (byte (getD w i 0)) s q)
+  lit-step h = let e : drop i w ≡ getD w i 0 ∷ drop (i + 1) w = rw (add-one, drop-cons w i 0) in rw e
+
+  pub lit-end : length w ≤ i → scan (lit (drop i w)) s q ≡ q
+  lit-end h = let e : drop i w ≡ [] = drop-of-length-le w h in rw e
+
+pub lit-again : (w s : List ℕ) (i : ℕ) (q q′ x : Scan) → i < length w → q′ ≡ scan (byte (getD w i 0)) s q → scan (lit (drop i w)) s q ≡ x → scan (lit (drop (i + 1) w)) s q′ ≡ x
+lit-again w s i q q′ x h e f = ap (scan (lit (drop (i + 1) w)) s) e ∙ sym (lit-step w s i q h) ∙ f

@@ -1,0 +1,9 @@
+pub mod Grammar
+pub mod Scanner
+pub mod Texts
+pub mod Tests
+pub mod Bools
+pub mod Theory
+pub mod Parts
+pub mod Bounds
+pub mod Laws

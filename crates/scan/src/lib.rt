@@ -1,0 +1,210 @@
+// Scanners that mirror a grammar: each gives where the longest viable beginning ends, and whether it is whole.
+ghost use mathlib.Core.Path.{_≡_};
+ghost use mathlib.Core.Bool.{cond};
+ghost use Prim.Native.Nat.{_≤_};
+ghost use Rattle.scan.specs.Grammar.{isIn, none as noneOf, run as runG, words as wordsG};
+ghost use Rattle.scan.specs.Scanner.{scan, longer as longerOf, leads as leadsOf, between16};
+ghost use Rattle.scan.specs.Texts.{lit as litG, byte as byteG, one as oneG};
+
+// Where a scan stopped, and whether what it passed is whole.
+pub struct Scan {
+    pub next: usize,
+    pub ok: bool,
+}
+
+// Where a part of a text stands. An absent part is at 0 and has length 0.
+pub struct Span {
+    pub at: u16,
+    pub len: u16,
+}
+
+// A class of bytes.
+pub enum Class {
+    Letter,
+    Digit,
+    Octal,
+    Alnum,
+    Word,
+    Byte(u8),
+    Range(u8, u8),
+    Of(u8, u8, u8, u8, u8),
+}
+
+pub fn is_in(k: Class, b: u8) -> bool
+    ensures { λ r. ⌜ r ≡ isIn k b ⌝ }
+{
+    match k {
+        Class::Letter => (65 <= b) & (b <= 90),
+        Class::Digit => (48 <= b) & (b <= 57),
+        Class::Octal => (48 <= b) & (b <= 55),
+        Class::Alnum => ((48 <= b) & (b <= 57)) | ((65 <= b) & (b <= 90)),
+        Class::Word => {
+            ((63 <= b) & (b <= 63))
+                | ((39 <= b) & (b <= 39))
+                | ((43 <= b) & (b <= 44))
+                | ((46 <= b) & (b <= 58))
+                | ((65 <= b) & (b <= 90))
+        }
+        Class::Byte(x) => (x <= b) & (b <= x),
+        Class::Range(x, y) => (x <= b) & (b <= y),
+        Class::Of(v, w, x, y, z) => {
+            ((z <= b) & (b <= z))
+                | ((y <= b) & (b <= y))
+                | ((x <= b) & (b <= x))
+                | ((w <= b) & (b <= w))
+                | ((v <= b) & (b <= v))
+        }
+    }
+}
+
+// From lo to hi bytes of a class.
+pub fn run(s: &[u8], r: Scan, k: Class, lo: usize, hi: usize) -> Scan
+    ensures { λ q. ⌜ q ≡ scan (runG k lo hi) (now (s .entry)) r ⌝ }
+{
+    if !r.ok {
+        return r;
+    }
+    let at = r.next;
+    let mut i = at;
+    let mut left = hi;
+    while 0 < left {
+        if s.len() <= i {
+            return Scan {
+                next: i,
+                ok: lo <= i - at,
+            };
+        }
+        if is_in(k, s[i]) {
+            i += 1;
+            left -= 1;
+        } else {
+            return Scan {
+                next: i,
+                ok: lo <= i - at,
+            };
+        }
+    }
+    Scan {
+        next: i,
+        ok: lo <= i - at,
+    }
+}
+
+// One byte of a class.
+pub fn one(s: &[u8], r: Scan, k: Class) -> Scan
+    ensures { λ q. ⌜ q ≡ scan (oneG k) (now (s .entry)) r ⌝ }
+{
+    run(s, r, k, 1, 1)
+}
+
+pub fn byte(s: &[u8], r: Scan, b: u8) -> Scan
+    ensures { λ q. ⌜ q ≡ scan (byteG b) (now (s .entry)) r ⌝ }
+{
+    run(s, r, Class::Byte(b), 1, 1)
+}
+
+// A given text.
+pub fn lit<'a>(s: &'a [u8], r: Scan, w: &'a [u8]) -> Scan
+    ensures { λ q. ⌜ q ≡ scan (litG (now (w .entry))) (now (s .entry)) r ⌝ }
+{
+    let mut q = r;
+    let mut i = 0;
+    while i < w.len() {
+        q = byte(s, q, w[i]);
+        i += 1;
+    }
+    q
+}
+
+// Runs of word bytes with one blank between, at most k bytes.
+pub fn words(s: &[u8], r: Scan, k: usize) -> Scan
+    ensures { λ q. ⌜ q ≡ scan (wordsG k) (now (s .entry)) r ⌝ }
+{
+    if !r.ok {
+        return r;
+    }
+    let mut i = r.next;
+    let mut left = k;
+    let mut m = false;
+    while 0 < left {
+        if s.len() <= i {
+            return Scan { next: i, ok: m };
+        }
+        let b = s[i];
+        if is_in(Class::Word, b) {
+            m = true;
+            i += 1;
+            left -= 1;
+        } else {
+            let blank = is_in(Class::Byte(b' '), b);
+            if m & blank & (1 < left) {
+                m = false;
+                i += 1;
+                left -= 1;
+            } else {
+                return Scan { next: i, ok: m };
+            }
+        }
+    }
+    Scan { next: i, ok: m }
+}
+
+// The longer of two.
+pub fn longer(a: Scan, b: Scan) -> Scan
+    ensures { λ r. ⌜ r ≡ longerOf a b ⌝ }
+{
+    if a.next < b.next {
+        return b;
+    }
+    if b.next < a.next {
+        return a;
+    }
+    Scan {
+        next: a.next,
+        ok: a.ok | b.ok,
+    }
+}
+
+// Whether the longer of two is the first.
+pub fn leads(a: Scan, b: Scan) -> bool
+    ensures { λ r. ⌜ r ≡ leadsOf a b ⌝ }
+{
+    if a.next < b.next {
+        return false;
+    }
+    if b.next < a.next {
+        return true;
+    }
+    a.ok
+}
+
+// An absent part.
+pub fn none() -> Span
+    ensures { λ r. ⌜ r ≡ noneOf ⌝ }
+{
+    Span { at: 0, len: 0 }
+}
+
+// The part between two scans, absent where the second is not whole.
+pub fn between(a: Scan, b: Scan) -> Span
+    requires { ⌜ a .next ≤ b .next ⌝ }
+    ensures { λ r. ⌜ r ≡ between16 a b ⌝ }
+{
+    if b.ok {
+        return Span {
+            at: (a.next % 65536) as u16,
+            len: ((b.next - a.next) % 65536) as u16,
+        };
+    }
+    Span { at: 0, len: 0 }
+}
+
+// The one where the first scan leads, else the other.
+pub fn either(a: Scan, b: Scan, x: Span, y: Span) -> Span
+    ensures { λ r. ⌜ r ≡ cond (leadsOf a b) x y ⌝ }
+{
+    if leads(a, b) {
+        return x;
+    }
+    y
+}
