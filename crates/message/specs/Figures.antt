@@ -11,7 +11,8 @@ use lib.Seq.{drop-cons, drop-length}
 use lib.Dec.{leb, eqb}
 use borrow.Author.Tests.{leb-true, eq-eqb, ne-eqb}
 use Rattle.scan.specs.Bools.{known}
-use Rattle.message.specs.Record.{figure, figureAt, lettersOf, kindOf}
+use Rattle.types.specs.Picking.{lettersOf}
+use Rattle.message.specs.Record.{figure, figureAt, kindOf}
 use Rattle.message.specs.declared.Kind.the-variants.{None}
 use Rattle.message.specs.Reading.{hyphens}
 

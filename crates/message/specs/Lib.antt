@@ -1,9 +1,4 @@
-pub mod Messages
-pub mod Sound
 pub mod Record
-pub mod Scanned
 pub mod Reading
 pub mod Figures
-pub mod Arms
-pub mod Picking
 pub mod Reader

@@ -21,12 +21,13 @@ use Rattle.scan.specs.Bounds.{spot-same, refusal-one, refused, short-whole, sho
 use Rattle.message.specs.declared.Verdict.{Verdict}
 use Rattle.message.specs.declared.Verdict.the-variants.{Read, Refused}
 use Rattle.message.specs.declared.Record.{Record}
-use Rattle.message.specs.declared.Scanned.{Scanned}
-use Rattle.message.specs.Messages.{message}
-use Rattle.message.specs.Sound.{message-good, message-plain, message-longest}
+use Rattle.types.specs.declared.Scanned.{Scanned}
+use Rattle.types.specs.Messages.{message}
+use Rattle.types.specs.Sound.{message-good, message-plain, message-longest}
 use Rattle.fields.specs.Names as n
-use Rattle.message.specs.Record.{isChg, lettersOf, kindOf, recordBy, recordOf, blank}
-use Rattle.message.specs.Scanned.{scannedBy}
+use Rattle.types.specs.Picking.{lettersOf}
+use Rattle.message.specs.Record.{isChg, kindOf, recordBy, recordOf, blank}
+use Rattle.types.specs.Scanned.{scannedBy}
 use Rattle.message.specs.Reading.{hyphens, Judged, cut, route, other, Words}
 
 -- A scan that is whole and reaches the end

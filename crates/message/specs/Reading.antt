@@ -13,7 +13,7 @@ use Rattle.message.specs.declared.Kind.the-variants.{Chg}
 use Rattle.message.specs.declared.Verdict.{Verdict}
 use Rattle.message.specs.declared.Verdict.the-variants.{Read, Refused}
 use Rattle.message.specs.declared.Record.{Record}
-use Rattle.message.specs.Messages.{message}
+use Rattle.types.specs.Messages.{message}
 use Rattle.message.specs.Record.{recordOf, blank, isChg}
 
 -- how many hyphens a text has

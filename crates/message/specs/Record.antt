@@ -6,8 +6,8 @@ use lib.ListN.{length, getD, take, drop}
 use lib.Dec.{leb, eqb}
 use Rattle.scan.specs.declared.Span.{Span}
 use Rattle.scan.specs.Grammar.{Part, look, none}
-use Rattle.fields.specs.Names as n
-use Rattle.changes.specs.Found.{planOf, amendedPlan}
+use Rattle.types.specs.Scanned.{partsOf}
+use Rattle.types.specs.Picking.{lettersAs, lettersOf}
 use Rattle.message.specs.declared.Kind.{Kind}
 use Rattle.message.specs.declared.Kind.the-variants.{None, Fpl, Cpl, Est, Chg, Cnl, Rti, Rta, Rla, Lam, Lrm}
 use Rattle.message.specs.declared.LevelKind.{LevelKind}
@@ -16,23 +16,10 @@ use Rattle.message.specs.declared.PointForm.{PointForm}
 use Rattle.message.specs.declared.PointForm.the-variants.{NoPoint, Name, Bearing, Degrees, Minutes}
 use Rattle.message.specs.declared.Level.{Level}
 use Rattle.changes.specs.declared.Plan.{Plan}
-use Rattle.message.specs.declared.Parts.{Parts}
+use Rattle.types.specs.declared.Parts.{Parts}
 use Rattle.message.specs.declared.PlanFigures.{PlanFigures}
 use Rattle.message.specs.declared.Figures.{Figures}
 use Rattle.message.specs.declared.Record.{Record}
-
--- where every part stands, f saying where the part of a name does
-abbrev pub partsOf : (ℕ → Span) → Parts
-partsOf f = record {
-  number = record { sender = f n.sender; receiver = f n.receiver; digits = f n.number };
-  reference = record { sender = f n.referenceSender; receiver = f n.referenceReceiver; digits = f n.referenceNumber };
-  own = planOf f;
-  estimate = record { point = f n.point; over = f n.over; crossing = f n.crossing; second = f n.second; sense = f n.sense };
-  changes = amendedPlan f;
-  sector = f n.sector;
-  track = f n.track;
-  reason = f n.reason;
-}
 
 -- the number that k digits stand for, which stand at `at`
 unfoldable pub figure : ℕ → List ℕ → ℕ → ℕ
@@ -46,15 +33,7 @@ figureAt k s at = cond (leb k 4) (figure k s at) 0
 abbrev pub figureIn : List ℕ → Span → ℕ
 figureIn s p = figureAt (p .len) s (p .at)
 
--- three letters as one number
-abbrev pub lettersAs : ℕ → ℕ → ℕ → ℕ
-lettersAs a b c = a * 65536 + b * 256 + c
-
--- the three letters of a text's type
-abbrev pub lettersOf : List ℕ → ℕ
-lettersOf s = lettersAs (getD s 1 0) (getD s 2 0) (getD s 3 0)
-
--- the type that they name
+-- the type that three letters name
 unfoldable pub kindOf : ℕ → Kind
 kindOf w =
     cond (eqb w (lettersAs 70 80 76)) Fpl

@@ -1,7 +1,7 @@
 // Scanners that mirror a grammar: each gives where the longest viable beginning ends, and whether it is whole.
 ghost use mathlib.Core.Path.{_≡_};
 ghost use mathlib.Core.Bool.{cond};
-ghost use Prim.Native.Nat.{_≤_};
+ghost use Prim.Native.Nat.{_≤_, _<_};
 ghost use Rattle.scan.specs.Grammar.{isIn, none as noneOf, run as runG, words as wordsG};
 ghost use Rattle.scan.specs.Scanner.{scan, longer as longerOf, leads as leadsOf, between16};
 ghost use Rattle.scan.specs.Texts.{lit as litG, byte as byteG, one as oneG};
@@ -207,4 +207,11 @@ pub fn either(a: Scan, b: Scan, x: Span, y: Span) -> Span
         return x;
     }
     y
+}
+
+// A byte as a number of a slice's width.
+pub fn wide(x: u8) -> usize
+    ensures { λ r. ⌜ (r ≡ x) × (r < 256) ⌝ }
+{
+    x as usize
 }

@@ -1,0 +1,671 @@
+// The ten types of message: each function mirrors one line of document 01's table and notes where the parts stand.
+ghost use mathlib.Core.Path.{_≡_};
+ghost use Prim.Native.Nat.{_≤_};
+ghost use lib.ListN.{length};
+ghost use Rattle.scan.specs.Grammar.{none};
+ghost use Rattle.types.specs.Messages.{opened as openedG, referring as referringG, fpl as fplG, cpl as cplG, est as estG, chg as chgG, cnl as cnlG, rti as rtiG, rta as rtaG, rla as rlaG, lam as lamG, lrm as lrmG, message as messageG};
+ghost use Rattle.types.specs.Scanned.{partsOf, noNumber, noEstimate, openedBy, frontOf, scannedBy};
+ghost use Rattle.types.specs.Picking.{unknownOf, lettersOf, Typed};
+use changes::Plan;
+use scan::Class;
+use scan::Scan;
+use scan::Span;
+
+// A message number or a reference.
+pub struct Number {
+    pub sender: Span,
+    pub receiver: Span,
+    pub digits: Span,
+}
+
+// Field 14.
+pub struct Estimate {
+    pub point: Span,
+    pub over: Span,
+    pub crossing: Span,
+    pub second: Span,
+    pub sense: Span,
+}
+
+// Where every part stands. `own` are the message's fields 07 to 18, `changes` those within field 22, `sector` is
+// field 31, `track` field 32, `reason` the digits of an LRM.
+pub struct Parts {
+    pub number: Number,
+    pub reference: Number,
+    pub own: Plan,
+    pub estimate: Estimate,
+    pub changes: Plan,
+    pub sector: Span,
+    pub track: Span,
+    pub reason: Span,
+}
+
+// How a text begins.
+struct Heading {
+    end: Scan,
+    number: Number,
+    reference: Number,
+}
+
+// Fields 07 to 10.
+struct Leading {
+    end: Scan,
+    plan: Plan,
+}
+
+pub struct Scanned {
+    pub end: Scan,
+    pub parts: Parts,
+}
+
+fn no_number() -> Number
+    ensures { λ q. ⌜ q ≡ noNumber ⌝ }
+{
+    let n = scan::none();
+    Number {
+        sender: n,
+        receiver: n,
+        digits: n,
+    }
+}
+
+fn no_estimate() -> Estimate
+    ensures { λ q. ⌜ q ≡ noEstimate ⌝ }
+{
+    let n = scan::none();
+    Estimate {
+        point: n,
+        over: n,
+        crossing: n,
+        second: n,
+        sense: n,
+    }
+}
+
+// "(", the three letters of the type, the number.
+fn opened(s: &[u8], a: u8, b: u8, c: u8) -> Heading
+    ensures { λ q. ⌜ q ≡ openedBy (openedG a b c) (now (s .entry)) ⌝ }
+{
+    let r = scan::byte(s, Scan { next: 0, ok: true }, b'(');
+    let x = scan::byte(s, r, a);
+    let y = scan::byte(s, x, b);
+    let n = fields::number(s, scan::byte(s, y, c));
+    let end = n.end;
+    let sender = n.sender;
+    let receiver = n.receiver;
+    let digits = n.digits;
+    Heading {
+        end,
+        number: Number {
+            sender,
+            receiver,
+            digits,
+        },
+        reference: no_number(),
+    }
+}
+
+// The same, and the reference.
+fn referring(s: &[u8], a: u8, b: u8, c: u8) -> Heading
+    ensures { λ q. ⌜ q ≡ openedBy (referringG a b c) (now (s .entry)) ⌝ }
+{
+    let o = opened(s, a, b, c);
+    let e = o.end;
+    let own = o.number;
+    let n = fields::number(s, e);
+    let end = n.end;
+    let sender = n.sender;
+    let receiver = n.receiver;
+    let digits = n.digits;
+    Heading {
+        end,
+        number: own,
+        reference: Number {
+            sender,
+            receiver,
+            digits,
+        },
+    }
+}
+
+// Fields 07 to 10.
+fn front(s: &[u8], r: Scan) -> Leading
+    ensures { λ q. ⌜ q ≡ frontOf (now (s .entry)) r ⌝ }
+{
+    let a = fields::field07(s, r);
+    let e = a.end;
+    let b = fields::field08(s, scan::byte(s, e, b'-'));
+    let f = b.end;
+    let c = fields::field09(s, scan::byte(s, f, b'-'));
+    let g = c.end;
+    let d = fields::field10(s, scan::byte(s, g, b'-'));
+    let end = d.end;
+    let mut plan = changes::no_plan();
+    let aircraft = a.aircraft;
+    plan.aircraft = aircraft;
+    let code = a.code;
+    plan.code = code;
+    let rules = b.rules;
+    plan.rules = rules;
+    let flight = b.flight;
+    plan.flight = flight;
+    let count = c.count;
+    plan.count = count;
+    let model = c.model;
+    plan.model = model;
+    let wake = c.wake;
+    plan.wake = wake;
+    let equipment = d.equipment;
+    plan.equipment = equipment;
+    let surveillance = d.surveillance;
+    plan.surveillance = surveillance;
+    Leading { end, plan }
+}
+
+fn fpl(s: &[u8]) -> Scanned
+    ensures { λ q. ⌜ q ≡ scannedBy fplG (now (s .entry)) ⌝ }
+{
+    let h = opened(s, b'F', b'P', b'L');
+    let e = h.end;
+    let number = h.number;
+    let reference = h.reference;
+    let f = front(s, scan::byte(s, e, b'-'));
+    let e1 = f.end;
+    let mut plan = f.plan;
+    let d = fields::field13(s, scan::byte(s, e1, b'-'));
+    let e2 = d.end;
+    let r = fields::field15(s, scan::byte(s, e2, b'-'));
+    let e3 = r.end;
+    let a = fields::field16(s, scan::byte(s, e3, b'-'));
+    let e4 = a.end;
+    let o = fields::field18(s, scan::byte(s, e4, b'-'));
+    let e5 = o.end;
+    let end = scan::byte(s, e5, b')');
+    let departure = d.departure;
+    plan.departure = departure;
+    let time = d.time;
+    plan.time = time;
+    let speed = r.speed;
+    plan.speed = speed;
+    let level = r.level;
+    plan.level = level;
+    let route = r.route;
+    plan.route = route;
+    let destination = a.destination;
+    plan.destination = destination;
+    let elapsed = a.elapsed;
+    plan.elapsed = elapsed;
+    let alternate = a.alternate;
+    plan.alternate = alternate;
+    let alternate2 = a.alternate2;
+    plan.alternate2 = alternate2;
+    let indicator = o.indicator;
+    plan.indicator = indicator;
+    let other = o.other;
+    plan.other = other;
+    Scanned {
+        end,
+        parts: Parts {
+            number,
+            reference,
+            own: plan,
+            estimate: no_estimate(),
+            changes: changes::no_plan(),
+            sector: scan::none(),
+            track: scan::none(),
+            reason: scan::none(),
+        },
+    }
+}
+
+fn cpl(s: &[u8]) -> Scanned
+    ensures { λ q. ⌜ q ≡ scannedBy cplG (now (s .entry)) ⌝ }
+{
+    let h = opened(s, b'C', b'P', b'L');
+    let e = h.end;
+    let number = h.number;
+    let reference = h.reference;
+    let f = front(s, scan::byte(s, e, b'-'));
+    let e1 = f.end;
+    let mut plan = f.plan;
+    let e2 = scan::byte(s, e1, b'-');
+    let e3 = scan::run(s, e2, Class::Letter, 4, 4);
+    let x = fields::field14(s, scan::byte(s, e3, b'-'));
+    let e4 = x.end;
+    let r = fields::field15(s, scan::byte(s, e4, b'-'));
+    let e5 = r.end;
+    let e6 = scan::byte(s, e5, b'-');
+    let e7 = scan::run(s, e6, Class::Letter, 4, 4);
+    let o = fields::field18(s, scan::byte(s, e7, b'-'));
+    let e8 = o.end;
+    let end = scan::byte(s, e8, b')');
+    plan.departure = scan::between(e2, e3);
+    plan.destination = scan::between(e6, e7);
+    let speed = r.speed;
+    plan.speed = speed;
+    let level = r.level;
+    plan.level = level;
+    let route = r.route;
+    plan.route = route;
+    let indicator = o.indicator;
+    plan.indicator = indicator;
+    let other = o.other;
+    plan.other = other;
+    let point = x.point;
+    let over = x.over;
+    let crossing = x.crossing;
+    let second = x.second;
+    let sense = x.sense;
+    let estimate = Estimate {
+        point,
+        over,
+        crossing,
+        second,
+        sense,
+    };
+    Scanned {
+        end,
+        parts: Parts {
+            number,
+            reference,
+            own: plan,
+            estimate,
+            changes: changes::no_plan(),
+            sector: scan::none(),
+            track: scan::none(),
+            reason: scan::none(),
+        },
+    }
+}
+
+fn est(s: &[u8]) -> Scanned
+    ensures { λ q. ⌜ q ≡ scannedBy estG (now (s .entry)) ⌝ }
+{
+    let h = referring(s, b'E', b'S', b'T');
+    let e = h.end;
+    let number = h.number;
+    let reference = h.reference;
+    let i = fields::field07(s, scan::byte(s, e, b'-'));
+    let e1 = i.end;
+    let e2 = scan::byte(s, e1, b'-');
+    let e3 = scan::run(s, e2, Class::Letter, 4, 4);
+    let x = fields::field14(s, scan::byte(s, e3, b'-'));
+    let e4 = x.end;
+    let e5 = scan::byte(s, e4, b'-');
+    let e6 = scan::run(s, e5, Class::Letter, 4, 4);
+    let end = scan::byte(s, e6, b')');
+    let mut plan = changes::no_plan();
+    plan.departure = scan::between(e2, e3);
+    plan.destination = scan::between(e5, e6);
+    let aircraft = i.aircraft;
+    plan.aircraft = aircraft;
+    let code = i.code;
+    plan.code = code;
+    let point = x.point;
+    let over = x.over;
+    let crossing = x.crossing;
+    let second = x.second;
+    let sense = x.sense;
+    let estimate = Estimate {
+        point,
+        over,
+        crossing,
+        second,
+        sense,
+    };
+    Scanned {
+        end,
+        parts: Parts {
+            number,
+            reference,
+            own: plan,
+            estimate,
+            changes: changes::no_plan(),
+            sector: scan::none(),
+            track: scan::none(),
+            reason: scan::none(),
+        },
+    }
+}
+
+fn chg(s: &[u8]) -> Scanned
+    ensures { λ q. ⌜ q ≡ scannedBy chgG (now (s .entry)) ⌝ }
+{
+    let h = referring(s, b'C', b'H', b'G');
+    let e = h.end;
+    let number = h.number;
+    let reference = h.reference;
+    let e1 = scan::byte(s, e, b'-');
+    let e2 = scan::run(s, e1, Class::Alnum, 2, 7);
+    let d = fields::field13o(s, scan::byte(s, e2, b'-'));
+    let e3 = d.end;
+    let e4 = scan::byte(s, e3, b'-');
+    let e5 = scan::run(s, e4, Class::Letter, 4, 4);
+    let c = changes::changed(s, scan::byte(s, e5, b'-'));
+    let e6 = c.end;
+    let end = scan::byte(s, e6, b')');
+    let mut plan = changes::no_plan();
+    plan.aircraft = scan::between(e1, e2);
+    let departure = d.departure;
+    plan.departure = departure;
+    let time = d.time;
+    plan.time = time;
+    plan.destination = scan::between(e4, e5);
+    let indicator = c.indicator;
+    plan.indicator = indicator;
+    let other = c.other;
+    plan.other = other;
+    let changes = c.plan;
+    Scanned {
+        end,
+        parts: Parts {
+            number,
+            reference,
+            own: plan,
+            estimate: no_estimate(),
+            changes,
+            sector: scan::none(),
+            track: scan::none(),
+            reason: scan::none(),
+        },
+    }
+}
+
+fn cnl(s: &[u8]) -> Scanned
+    ensures { λ q. ⌜ q ≡ scannedBy cnlG (now (s .entry)) ⌝ }
+{
+    let h = referring(s, b'C', b'N', b'L');
+    let e = h.end;
+    let number = h.number;
+    let reference = h.reference;
+    let e1 = scan::byte(s, e, b'-');
+    let e2 = scan::run(s, e1, Class::Alnum, 2, 7);
+    let d = fields::field13o(s, scan::byte(s, e2, b'-'));
+    let e3 = d.end;
+    let e4 = scan::byte(s, e3, b'-');
+    let e5 = scan::run(s, e4, Class::Letter, 4, 4);
+    let o = fields::field18(s, scan::byte(s, e5, b'-'));
+    let e6 = o.end;
+    let end = scan::byte(s, e6, b')');
+    let mut plan = changes::no_plan();
+    plan.aircraft = scan::between(e1, e2);
+    let departure = d.departure;
+    plan.departure = departure;
+    let time = d.time;
+    plan.time = time;
+    plan.destination = scan::between(e4, e5);
+    let indicator = o.indicator;
+    plan.indicator = indicator;
+    let other = o.other;
+    plan.other = other;
+    Scanned {
+        end,
+        parts: Parts {
+            number,
+            reference,
+            own: plan,
+            estimate: no_estimate(),
+            changes: changes::no_plan(),
+            sector: scan::none(),
+            track: scan::none(),
+            reason: scan::none(),
+        },
+    }
+}
+
+fn rti(s: &[u8]) -> Scanned
+    ensures { λ q. ⌜ q ≡ scannedBy rtiG (now (s .entry)) ⌝ }
+{
+    let h = referring(s, b'R', b'T', b'I');
+    let e = h.end;
+    let number = h.number;
+    let reference = h.reference;
+    let i = fields::field07(s, scan::byte(s, e, b'-'));
+    let e1 = i.end;
+    let e2 = scan::byte(s, e1, b'-');
+    let e3 = scan::run(s, e2, Class::Letter, 4, 4);
+    let e4 = scan::byte(s, e3, b'-');
+    let e5 = scan::run(s, e4, Class::Letter, 4, 4);
+    let e6 = scan::byte(s, e5, b'-');
+    let e7 = scan::words(s, e6, 20);
+    let e8 = scan::byte(s, e7, b'-');
+    let e9 = scan::words(s, e8, 60);
+    let end = scan::byte(s, e9, b')');
+    let mut plan = changes::no_plan();
+    let aircraft = i.aircraft;
+    plan.aircraft = aircraft;
+    let code = i.code;
+    plan.code = code;
+    plan.departure = scan::between(e2, e3);
+    plan.destination = scan::between(e4, e5);
+    let sector = scan::between(e6, e7);
+    let track = scan::between(e8, e9);
+    Scanned {
+        end,
+        parts: Parts {
+            number,
+            reference,
+            own: plan,
+            estimate: no_estimate(),
+            changes: changes::no_plan(),
+            sector,
+            track,
+            reason: scan::none(),
+        },
+    }
+}
+
+fn rta(s: &[u8]) -> Scanned
+    ensures { λ q. ⌜ q ≡ scannedBy rtaG (now (s .entry)) ⌝ }
+{
+    let h = referring(s, b'R', b'T', b'A');
+    let e = h.end;
+    let number = h.number;
+    let reference = h.reference;
+    let e1 = scan::byte(s, e, b'-');
+    let e2 = scan::run(s, e1, Class::Alnum, 2, 7);
+    let e3 = scan::byte(s, e2, b'-');
+    let e4 = scan::run(s, e3, Class::Letter, 4, 4);
+    let e5 = scan::byte(s, e4, b'-');
+    let e6 = scan::run(s, e5, Class::Letter, 4, 4);
+    let e7 = scan::byte(s, e6, b'-');
+    let e8 = scan::words(s, e7, 20);
+    let end = scan::byte(s, e8, b')');
+    let mut plan = changes::no_plan();
+    plan.aircraft = scan::between(e1, e2);
+    plan.departure = scan::between(e3, e4);
+    plan.destination = scan::between(e5, e6);
+    let sector = scan::between(e7, e8);
+    Scanned {
+        end,
+        parts: Parts {
+            number,
+            reference,
+            own: plan,
+            estimate: no_estimate(),
+            changes: changes::no_plan(),
+            sector,
+            track: scan::none(),
+            reason: scan::none(),
+        },
+    }
+}
+
+fn rla(s: &[u8]) -> Scanned
+    ensures { λ q. ⌜ q ≡ scannedBy rlaG (now (s .entry)) ⌝ }
+{
+    let h = referring(s, b'R', b'L', b'A');
+    let e = h.end;
+    let number = h.number;
+    let reference = h.reference;
+    let e1 = scan::byte(s, e, b'-');
+    let e2 = scan::words(s, e1, 20);
+    let end = scan::byte(s, e2, b')');
+    let sector = scan::between(e1, e2);
+    Scanned {
+        end,
+        parts: Parts {
+            number,
+            reference,
+            own: changes::no_plan(),
+            estimate: no_estimate(),
+            changes: changes::no_plan(),
+            sector,
+            track: scan::none(),
+            reason: scan::none(),
+        },
+    }
+}
+
+fn lam(s: &[u8]) -> Scanned
+    ensures { λ q. ⌜ q ≡ scannedBy lamG (now (s .entry)) ⌝ }
+{
+    let h = referring(s, b'L', b'A', b'M');
+    let e = h.end;
+    let number = h.number;
+    let reference = h.reference;
+    let end = scan::byte(s, e, b')');
+    Scanned {
+        end,
+        parts: Parts {
+            number,
+            reference,
+            own: changes::no_plan(),
+            estimate: no_estimate(),
+            changes: changes::no_plan(),
+            sector: scan::none(),
+            track: scan::none(),
+            reason: scan::none(),
+        },
+    }
+}
+
+fn lrm(s: &[u8]) -> Scanned
+    ensures { λ q. ⌜ q ≡ scannedBy lrmG (now (s .entry)) ⌝ }
+{
+    let h = referring(s, b'L', b'R', b'M');
+    let e = h.end;
+    let number = h.number;
+    let reference = h.reference;
+    let e1 = scan::byte(s, e, b'-');
+    let e2 = scan::lit(s, e1, b"RMK/");
+    let e3 = scan::run(s, e2, Class::Digit, 2, 2);
+    let end = scan::byte(s, e3, b')');
+    let reason = scan::between(e2, e3);
+    Scanned {
+        end,
+        parts: Parts {
+            number,
+            reference,
+            own: changes::no_plan(),
+            estimate: no_estimate(),
+            changes: changes::no_plan(),
+            sector: scan::none(),
+            track: scan::none(),
+            reason,
+        },
+    }
+}
+
+pub fn no_parts() -> Parts
+    ensures { λ q. ⌜ q ≡ partsOf (λ _. none) ⌝ }
+{
+    Parts {
+        number: no_number(),
+        reference: no_number(),
+        own: changes::no_plan(),
+        estimate: no_estimate(),
+        changes: changes::no_plan(),
+        sector: scan::none(),
+        track: scan::none(),
+        reason: scan::none(),
+    }
+}
+
+// No type begins as s does: how much of s some type begins with.
+fn unknown(s: &[u8]) -> Scanned
+    ensures { λ q. ⌜ q ≡ unknownOf (now (s .entry)) ⌝ }
+{
+    let r = Scan { next: 0, ok: true };
+    let a = scan::lit(s, r, b"(FPL");
+    let b = scan::lit(s, r, b"(CPL");
+    let c = scan::lit(s, r, b"(EST");
+    let d = scan::lit(s, r, b"(CHG");
+    let e = scan::lit(s, r, b"(CNL");
+    let f = scan::lit(s, r, b"(RTI");
+    let g = scan::lit(s, r, b"(RTA");
+    let h = scan::lit(s, r, b"(RLA");
+    let i = scan::lit(s, r, b"(LAM");
+    let j = scan::lit(s, r, b"(LRM");
+    let k = scan::longer(i, j);
+    let l = scan::longer(h, k);
+    let m = scan::longer(g, l);
+    let n = scan::longer(f, m);
+    let o = scan::longer(e, n);
+    let p = scan::longer(d, o);
+    let q = scan::longer(c, p);
+    let t = scan::longer(b, q);
+    let u = scan::longer(a, t);
+    Scanned {
+        end: u,
+        parts: no_parts(),
+    }
+}
+
+// The three letters of the type as one number.
+pub fn letters(s: &[u8]) -> usize
+    requires { ⌜ 4 ≤ length (now s) ⌝ }
+    ensures { λ r. ⌜ r ≡ lettersOf (now (s .entry)) ⌝ }
+{
+    scan::wide(s[1]) * 65536 + scan::wide(s[2]) * 256 + scan::wide(s[3])
+}
+
+// The scan of the one type that has the letters.
+fn by_letters(s: &[u8], w: usize) -> Scanned
+    requires { ⌜ Typed (now s) × (lettersOf (now s) ≡ w) ⌝ }
+    ensures { λ q. ⌜ q ≡ scannedBy messageG (now (s .entry)) ⌝ }
+{
+    if w == 4608076 {
+        return fpl(s);
+    }
+    if w == 4411468 {
+        return cpl(s);
+    }
+    if w == 4543316 {
+        return est(s);
+    }
+    if w == 4409415 {
+        return chg(s);
+    }
+    if w == 4410956 {
+        return cnl(s);
+    }
+    if w == 5395529 {
+        return rti(s);
+    }
+    if w == 5395521 {
+        return rta(s);
+    }
+    if w == 5393473 {
+        return rla(s);
+    }
+    if w == 4997453 {
+        return lam(s);
+    }
+    if w == 5001805 {
+        return lrm(s);
+    }
+    unknown(s)
+}
+
+pub fn scan_any(s: &[u8]) -> Scanned
+    ensures { λ q. ⌜ q ≡ scannedBy messageG (now (s .entry)) ⌝ }
+{
+    if s.len() < 4 {
+        return unknown(s);
+    }
+    if s[0] != b'(' {
+        return unknown(s);
+    }
+    by_letters(s, letters(s))
+}
