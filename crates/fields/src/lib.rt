@@ -111,9 +111,9 @@ pub fn field07(s: &[u8], r: Scan) -> Found07
 pub fn field08(s: &[u8], r: Scan) -> Found08
     ensures { λ q. ⌜ q ≡ found08 0 (now (s .entry)) r ⌝ }
 {
-    let a = scan::one(s, r, Class::Of(b'I', b'V', b'Y', b'Z', b'Z'));
+    let a = scan::one_of(s, r, b'I', b'V', b'Y', b'Z', b'Z');
     let rules = scan::between(r, a);
-    let b = scan::one(s, a, Class::Of(b'S', b'N', b'G', b'M', b'X'));
+    let b = scan::one_of(s, a, b'S', b'N', b'G', b'M', b'X');
     let flight = scan::either(a, b, scan::none(), scan::between(a, b));
     Found08 {
         end: scan::longer(a, b),
@@ -126,9 +126,9 @@ pub fn field08(s: &[u8], r: Scan) -> Found08
 fn counted(s: &[u8], r: Scan) -> Scan
     ensures { λ q. ⌜ q ≡ scanG countedG (now (s .entry)) r ⌝ }
 {
-    let a = scan::one(s, r, Class::Range(b'2', b'9'));
-    let b = scan::one(s, r, Class::Range(b'1', b'9'));
-    scan::longer(a, scan::one(s, b, Class::Digit))
+    let a = scan::in_range(s, r, b'2', b'9');
+    let b = scan::in_range(s, r, b'1', b'9');
+    scan::longer(a, scan::digit(s, b))
 }
 
 pub fn field09(s: &[u8], r: Scan) -> Found09
@@ -137,11 +137,11 @@ pub fn field09(s: &[u8], r: Scan) -> Found09
     let n = counted(s, r);
     let count = scan::either(r, n, scan::none(), scan::between(r, n));
     let a = scan::longer(r, n);
-    let l = scan::one(s, a, Class::Letter);
+    let l = scan::letter(s, a);
     let b = scan::run(s, l, Class::Alnum, 1, 3);
     let model = scan::between(a, b);
     let c = scan::byte(s, b, b'/');
-    let d = scan::one(s, c, Class::Of(b'L', b'M', b'H', b'H', b'H'));
+    let d = scan::one_of(s, c, b'L', b'M', b'H', b'H', b'H');
     let wake = scan::between(c, d);
     Found09 {
         end: d,
@@ -169,19 +169,16 @@ pub fn field10(s: &[u8], r: Scan) -> Found10
 fn hour(s: &[u8], r: Scan) -> Scan
     ensures { λ q. ⌜ q ≡ scanG hourG (now (s .entry)) r ⌝ }
 {
-    let a = scan::one(s, r, Class::Range(b'0', b'1'));
+    let a = scan::in_range(s, r, b'0', b'1');
     let b = scan::byte(s, r, b'2');
-    scan::longer(
-        scan::one(s, a, Class::Digit),
-        scan::one(s, b, Class::Range(b'0', b'3')),
-    )
+    scan::longer(scan::digit(s, a), scan::in_range(s, b, b'0', b'3'))
 }
 
 fn minute(s: &[u8], r: Scan) -> Scan
     ensures { λ q. ⌜ q ≡ scanG minuteG (now (s .entry)) r ⌝ }
 {
-    let a = scan::one(s, r, Class::Range(b'0', b'5'));
-    scan::one(s, a, Class::Digit)
+    let a = scan::in_range(s, r, b'0', b'5');
+    scan::digit(s, a)
 }
 
 // 0000 to 2359.
@@ -224,7 +221,7 @@ pub fn field13o(s: &[u8], r: Scan) -> Found13
 fn level3(s: &[u8], r: Scan) -> Scan
     ensures { λ q. ⌜ q ≡ scanG level3G (now (s .entry)) r ⌝ }
 {
-    let a = scan::one(s, r, Class::Of(b'F', b'A', b'A', b'A', b'A'));
+    let a = scan::one_of(s, r, b'F', b'A', b'A', b'A', b'A');
     scan::run(s, a, Class::Digit, 3, 3)
 }
 
@@ -232,7 +229,7 @@ fn level3(s: &[u8], r: Scan) -> Scan
 fn level4(s: &[u8], r: Scan) -> Scan
     ensures { λ q. ⌜ q ≡ scanG level4G (now (s .entry)) r ⌝ }
 {
-    let a = scan::one(s, r, Class::Of(b'S', b'M', b'M', b'M', b'M'));
+    let a = scan::one_of(s, r, b'S', b'M', b'M', b'M', b'M');
     scan::run(s, a, Class::Digit, 4, 4)
 }
 
@@ -247,11 +244,11 @@ fn level(s: &[u8], r: Scan) -> Scan
 fn bearing(s: &[u8], r: Scan) -> Scan
     ensures { λ q. ⌜ q ≡ scanG bearingG (now (s .entry)) r ⌝ }
 {
-    let a = scan::one(s, r, Class::Range(b'0', b'2'));
+    let a = scan::in_range(s, r, b'0', b'2');
     let b = scan::run(s, a, Class::Digit, 2, 2);
     let c = scan::byte(s, r, b'3');
-    let d = scan::one(s, c, Class::Range(b'0', b'5'));
-    let e = scan::one(s, d, Class::Digit);
+    let d = scan::in_range(s, c, b'0', b'5');
+    let e = scan::digit(s, d);
     let f = scan::lit(s, c, b"60");
     scan::longer(b, scan::longer(e, f))
 }
@@ -269,36 +266,36 @@ fn bearing_from(s: &[u8], r: Scan, k: usize) -> Scan
 fn degrees(s: &[u8], r: Scan) -> Scan
     ensures { λ q. ⌜ q ≡ scanG degreesG (now (s .entry)) r ⌝ }
 {
-    let a = scan::one(s, r, Class::Range(b'0', b'8'));
-    let b = scan::one(s, a, Class::Digit);
+    let a = scan::in_range(s, r, b'0', b'8');
+    let b = scan::digit(s, a);
     let c = scan::longer(b, scan::lit(s, r, b"90"));
-    let d = scan::one(s, c, Class::Of(b'N', b'S', b'S', b'S', b'S'));
+    let d = scan::one_of(s, c, b'N', b'S', b'S', b'S', b'S');
     let e = scan::byte(s, d, b'0');
     let f = scan::run(s, e, Class::Digit, 2, 2);
     let g = scan::byte(s, d, b'1');
-    let h = scan::one(s, g, Class::Range(b'0', b'7'));
-    let i = scan::one(s, h, Class::Digit);
+    let h = scan::in_range(s, g, b'0', b'7');
+    let i = scan::digit(s, h);
     let j = scan::longer(i, scan::lit(s, g, b"80"));
     let k = scan::longer(f, j);
-    scan::one(s, k, Class::Of(b'E', b'W', b'W', b'W', b'W'))
+    scan::one_of(s, k, b'E', b'W', b'W', b'W', b'W')
 }
 
 // As 4620N07805W.
 fn minutes(s: &[u8], r: Scan) -> Scan
     ensures { λ q. ⌜ q ≡ scanG minutesG (now (s .entry)) r ⌝ }
 {
-    let a = scan::one(s, r, Class::Range(b'0', b'8'));
-    let b = minute(s, scan::one(s, a, Class::Digit));
+    let a = scan::in_range(s, r, b'0', b'8');
+    let b = minute(s, scan::digit(s, a));
     let c = scan::longer(b, scan::lit(s, r, b"9000"));
-    let d = scan::one(s, c, Class::Of(b'N', b'S', b'S', b'S', b'S'));
+    let d = scan::one_of(s, c, b'N', b'S', b'S', b'S', b'S');
     let e = scan::byte(s, d, b'0');
     let f = minute(s, scan::run(s, e, Class::Digit, 2, 2));
     let g = scan::byte(s, d, b'1');
-    let h = scan::one(s, g, Class::Range(b'0', b'7'));
-    let i = minute(s, scan::one(s, h, Class::Digit));
+    let h = scan::in_range(s, g, b'0', b'7');
+    let i = minute(s, scan::digit(s, h));
     let j = scan::longer(i, scan::lit(s, g, b"8000"));
     let k = scan::longer(f, j);
-    scan::one(s, k, Class::Of(b'E', b'W', b'W', b'W', b'W'))
+    scan::one_of(s, k, b'E', b'W', b'W', b'W', b'W')
 }
 
 fn point(s: &[u8], r: Scan) -> Scan
@@ -322,7 +319,7 @@ pub fn field14(s: &[u8], r: Scan) -> Found14
     let c = time(s, b);
     let d = level(s, c);
     let e = level(s, d);
-    let f = scan::one(s, e, Class::Of(b'A', b'B', b'B', b'B', b'B'));
+    let f = scan::one_of(s, e, b'A', b'B', b'B', b'B', b'B');
     let second = scan::either(d, f, scan::none(), scan::between(d, e));
     let sense = scan::either(d, f, scan::none(), scan::between(e, f));
     Found14 {
@@ -394,7 +391,7 @@ fn sped(s: &[u8], r: Scan, v: Scan, k: usize) -> Found15
 pub fn field15(s: &[u8], r: Scan) -> Found15
     ensures { λ q. ⌜ q ≡ found15 0 (now (s .entry)) r ⌝ }
 {
-    let a = scan::one(s, r, Class::Of(b'K', b'N', b'N', b'N', b'N'));
+    let a = scan::one_of(s, r, b'K', b'N', b'N', b'N', b'N');
     let b = sped(s, r, scan::run(s, a, Class::Digit, 4, 4), 295);
     let d = scan::byte(s, r, b'M');
     let e = sped(s, r, scan::run(s, d, Class::Digit, 3, 3), 296);

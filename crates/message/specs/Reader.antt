@@ -28,7 +28,7 @@ use Rattle.fields.specs.Names as n
 use Rattle.types.specs.Picking.{lettersOf}
 use Rattle.message.specs.Record.{isChg, kindOf, recordBy, recordOf, blank}
 use Rattle.types.specs.Scanned.{scannedBy}
-use Rattle.message.specs.Reading.{hyphens, Judged, cut, route, other, Words}
+use Rattle.message.specs.Reading.{hyphens, Judged, answerOf, Answers, cut, route, other, Words}
 
 -- A scan that is whole and reaches the end
 
@@ -87,6 +87,11 @@ read-derived s (Refused n h) r p d = absurd (p .0 .never d)
 
 pub derived-read : (s : List ℕ) (r : Record) → Judged s Read r → Derives message s
 derived-read s r p = reads-derives message 0 s (p .0) (p .1)
+
+-- what a verdict says by document 01's number is so
+pub answered : (s : List ℕ) (v : Verdict) (r : Record) → Judged s v r → Answers s (answerOf v)
+answered s Read r p = inl (refl, derived-read s r p)
+answered s (Refused n h) r p = inr (refl, p .0, p .1)
 
 -- THE VERDICT AS A FUNCTION, for those who list texts
 

@@ -1,13 +1,14 @@
 -- WHAT A READER ANSWERS, by document 01: a text is read exactly when the rules derive it, and the record is the one
 -- that they give; else the refusal names the first place past which no continuation helps.
 use mathlib.Core.Path.{_≡_}
+use mathlib.Core.Logic.{_⊎_}
 use mathlib.Core.Bool.{cond}
 use mathlib.Core.List.{List, [], _∷_}
 use Prim.Native.Nat.{ℕ, suc}
 use lib.ListN.{take, drop}
 use lib.Dec.{eqb}
 use Rattle.scan.specs.declared.Span.{Span}
-use Rattle.scan.specs.Grammar.{Part, Reads, Refusal}
+use Rattle.scan.specs.Grammar.{Derives, Part, Reads, Refusal}
 use Rattle.message.specs.declared.Kind.{Kind}
 use Rattle.message.specs.declared.Kind.the-variants.{Chg}
 use Rattle.message.specs.declared.Verdict.{Verdict}
@@ -35,6 +36,13 @@ pub record Answer : Type 0 where
 abbrev pub answerOf : Verdict → Answer
 answerOf Read = record { number = 0; place = 0; before = 0 }
 answerOf (Refused place before) = record { number = 1; place = place; before = before }
+
+-- what document 01 says by that number: 0 where the rules derive the text, 1 where they do not, with the place past
+-- which no continuation helps and the hyphens before it
+abbrev pub Answers : List ℕ → Answer → Type 0
+Answers s a =
+    ((a .number ≡ 0) × Derives message s)
+    ⊎ ((a .number ≡ 1) × Refusal message s (a .place) × (a .before ≡ hyphens (take (a .place) s)))
 
 -- the bytes of a part
 abbrev pub cut : List ℕ → Span → List ℕ

@@ -332,12 +332,12 @@ pub fn read(s: &[u8]) -> Outcome
     let place = end.next;
     if end.ok & (place == s.len()) {
         let parts = q.parts;
-        let kind = kind_in(s);
+        let its = kind_in(s);
         let figures = decoded(s, parts);
         return Outcome {
             verdict: Verdict::Read,
             record: Record {
-                kind,
+                kind: its,
                 parts,
                 figures,
             },

@@ -9,7 +9,7 @@ use lib.ListN.{length, take}
 use lib.Dec.{leb, eqb}
 use Rattle.scan.specs.declared.Span.{Span}
 use Rattle.scan.specs.declared.Class.{Class}
-use Rattle.scan.specs.declared.Class.the-variants.{Letter, Digit, Octal, Alnum, Word, Byte, Range, Of}
+use Rattle.scan.specs.declared.Class.the-variants.{Letter, Digit, Octal, Alnum, Word, Byte, Range, Two, Of}
 
 -- a set of bytes: ranges, each from its first byte to its last
 abbrev pub Ranges : Type 0
@@ -21,7 +21,8 @@ has (r ∷ c) x = has c x || (leb (r .0) x && leb x (r .1))
 
 -- Letter: A to Z. Digit: 0 to 9. Octal: 0 to 7. Alnum: letters and digits.
 -- Word: letters, digits and / . , ' + : ?
--- Byte b: b alone. Range a b: a to b. Of a b c d e: these five, of which some may be the same.
+-- Byte b: b alone. Range a b: a to b. Two a b c d: a to b and c to d. Of a b c d e: these five, of which some may be
+-- the same.
 abbrev pub ranges : Class → Ranges
 ranges Letter = (65, 90) ∷ []
 ranges Digit = (48, 57) ∷ []
@@ -30,6 +31,7 @@ ranges Alnum = (65, 90) ∷ (48, 57) ∷ []
 ranges Word = (65, 90) ∷ (46, 58) ∷ (43, 44) ∷ (39, 39) ∷ (63, 63) ∷ []
 ranges (Byte b) = (b, b) ∷ []
 ranges (Range a b) = (a, b) ∷ []
+ranges (Two a b c d) = (a, b) ∷ (c, d) ∷ []
 ranges (Of a b c d e) = (a, a) ∷ (b, b) ∷ (c, c) ∷ (d, d) ∷ (e, e) ∷ []
 
 abbrev pub isIn : Class → ℕ → Bool

@@ -9,10 +9,10 @@ use lib.ListN.{length, getD, drop, drop-of-length-le}
 use lib.Seq.{drop-cons}
 use Rattle.scan.specs.Texts.{lit, byte}
 use lib.Dec.{leb, ltb, leb·suc-suc}
-use borrow.Author.Tests.{lt-ltb, le-ltb}
+use borrow.Author.Tests.{lt-ltb, le-ltb, le-leb, leb-true}
 use Rattle.scan.specs.declared.Scan.{Scan}
 use Rattle.scan.specs.declared.Class.{Class}
-use Rattle.scan.specs.declared.Class.the-variants.{Word, Byte}
+use Rattle.scan.specs.declared.Class.the-variants.{Word, Byte, Range, Two}
 use Rattle.scan.specs.Grammar.{isIn, G, run}
 use Rattle.scan.specs.Scanner.{scan, runAt, runScan, wordsAt, wordsScan}
 
@@ -36,6 +36,60 @@ module _ (c : Class) (s : List ℕ) (i : ℕ) where
   unfolding runAt
   run-on zero z h e = absurd (omega arith)
   run-on (suc k) z h e = let n : suc k - 1 ≡ k = omega arith in rw (lt-ltb i (length s) h, e, n)
+
+-- classes of the same bytes run alike
+pub run-alike : (c d : Class) → ((x : ℕ) → isIn c x ≡ isIn d x) → (k : ℕ) (s : List ℕ) (at : ℕ) → runAt c k s at ≡ runAt d k s at
+unfolding runAt
+run-alike c d e zero s at = refl
+run-alike c d e (suc k) s at = rw (e (getD s at 0), run-alike c d e k s (at + 1))
+
+-- a range and the same again
+pub twice : (a b x : ℕ) → isIn (Two a b a b) x ≡ isIn (Range a b) x
+twice a b x = same (leb a x && leb x b)
+  where
+    same : (p : Bool) → (false || p) || p ≡ false || p
+    same true = refl
+    same false = refl
+
+pub run-forth : (c : Class) (k : ℕ) (s : List ℕ) (at : ℕ) → at ≤ runAt c k s at
+unfolding runAt
+run-forth c zero s at = omega arith
+run-forth c (suc k) s at = go (ltb at (length s) && isIn c (getD s at 0)) (run-forth c k s (at + 1))
+  where
+    go : (b : Bool) → at + 1 ≤ runAt c k s (at + 1) → at ≤ cond b (runAt c k s (at + 1)) at
+    go true h = omega arith
+    go false h = omega arith
+
+-- and so does one byte of them
+pub one-alike : (c d : Class) → ((x : ℕ) → isIn c x ≡ isIn d x) → (s : List ℕ) (r : Scan) → runScan c 1 1 s r ≡ runScan d 1 1 s r
+unfolding runScan
+one-alike c d e s r = rw (run-alike c d e 1 s (r .next))
+
+-- a class of one byte
+pub is-byte : (b x : ℕ) → x ≡ b → isIn (Byte b) x ≡ true
+is-byte b x e = rw (e, le-leb b b (omega arith))
+
+pub no-byte : (b x : ℕ) → (x ≡ b → ⊥) → isIn (Byte b) x ≡ false
+no-byte b x n = go (leb b x) refl (leb x b) refl
+  where
+    go : (p : Bool) → leb b x ≡ p → (q : Bool) → leb x b ≡ q → (false || (p && q)) ≡ false
+    go true e true f = absurd (n (omega (arith, leb-true b x e, leb-true x b f)))
+    go true e false f = refl
+    go false e q f = refl
+
+-- one byte
+module _ (c : Class) (s : List ℕ) (r : Scan) (o : r .ok ≡ true) where
+  pub one-past : length s ≤ r .next → record { next = r .next; ok = false } ≡ runScan c 1 1 s r
+  unfolding runScan runAt
+  one-past h = let z : r .next - r .next ≡ 0 = omega arith in rw (o, le-ltb (r .next) (length s) h, z)
+
+  pub one-on : r .next < length s → isIn c (getD s (r .next) 0) ≡ true → record { next = r .next + 1; ok = true } ≡ runScan c 1 1 s r
+  unfolding runScan runAt
+  one-on h e = let z : leb 1 (r .next + 1 - r .next) ≡ true = le-leb 1 (r .next + 1 - r .next) (omega arith) in rw (o, lt-ltb (r .next) (length s) h, e, z)
+
+  pub one-off : r .next < length s → isIn c (getD s (r .next) 0) ≡ false → record { next = r .next; ok = false } ≡ runScan c 1 1 s r
+  unfolding runScan runAt
+  one-off h e = let z : r .next - r .next ≡ 0 = omega arith in rw (o, lt-ltb (r .next) (length s) h, e, z)
 
 pub run-is : (c : Class) (lo hi : ℕ) (s : List ℕ) (r : Scan) (i j : ℕ) → r .ok ≡ true → j ≡ runAt c hi s (r .next) → j ≡ i → record { next = i; ok = leb lo (i - r .next) } ≡ runScan c lo hi s r
 unfolding runScan

@@ -3,7 +3,7 @@ ghost use mathlib.Core.Path.{_≡_};
 ghost use mathlib.Core.Bool.{cond};
 ghost use Prim.Native.Nat.{_≤_, _<_};
 ghost use Rattle.scan.specs.Grammar.{isIn, none as noneOf, run as runG, words as wordsG};
-ghost use Rattle.scan.specs.Scanner.{scan, longer as longerOf, leads as leadsOf, between16};
+ghost use Rattle.scan.specs.Scanner.{runAt, scan, longer as longerOf, leads as leadsOf, between16};
 ghost use Rattle.scan.specs.Texts.{lit as litG, byte as byteG, one as oneG};
 
 // Where a scan stopped, and whether what it passed is whole.
@@ -27,6 +27,7 @@ pub enum Class {
     Word,
     Byte(u8),
     Range(u8, u8),
+    Two(u8, u8, u8, u8),
     Of(u8, u8, u8, u8, u8),
 }
 
@@ -47,6 +48,7 @@ pub fn is_in(k: Class, b: u8) -> bool
         }
         Class::Byte(x) => (x <= b) & (b <= x),
         Class::Range(x, y) => (x <= b) & (b <= y),
+        Class::Two(a, z, c, y) => ((c <= b) & (b <= y)) | ((a <= b) & (b <= z)),
         Class::Of(v, w, x, y, z) => {
             ((z <= b) & (b <= z))
                 | ((y <= b) & (b <= y))
@@ -54,6 +56,62 @@ pub fn is_in(k: Class, b: u8) -> bool
                 | ((w <= b) & (b <= w))
                 | ((v <= b) & (b <= v))
         }
+    }
+}
+
+// How far bytes from a to z or from b to y go on, at most hi of them. The ranges are numbers and no class, so that they
+// stand in registers.
+fn reach(s: &[u8], at: usize, hi: usize, a: u8, z: u8, b: u8, y: u8) -> usize
+    ensures { λ i. ⌜ i ≡ runAt (Class.Two a z b y) hi (now (s .entry)) at ⌝ }
+{
+    let mut i = at;
+    let mut left = hi;
+    while 0 < left {
+        if s.len() <= i {
+            return i;
+        }
+        if !is_in(Class::Two(a, z, b, y), s[i]) {
+            return i;
+        }
+        i += 1;
+        left -= 1;
+    }
+    i
+}
+
+// How far bytes of a class go on, at most hi of them.
+fn reach_any(s: &[u8], at: usize, hi: usize, k: Class) -> usize
+    ensures { λ i. ⌜ i ≡ runAt k hi (now (s .entry)) at ⌝ }
+{
+    let mut i = at;
+    let mut left = hi;
+    while 0 < left {
+        if s.len() <= i {
+            return i;
+        }
+        if !is_in(k, s[i]) {
+            return i;
+        }
+        i += 1;
+        left -= 1;
+    }
+    i
+}
+
+// The same, by the ranges of the classes that fields are made of.
+fn reach_class(s: &[u8], at: usize, hi: usize, k: Class) -> usize
+    ensures { λ i. ⌜ i ≡ runAt k hi (now (s .entry)) at ⌝ }
+{
+    match k {
+        Class::Letter => reach(s, at, hi, b'A', b'Z', b'A', b'Z'),
+        Class::Digit => reach(s, at, hi, b'0', b'9', b'0', b'9'),
+        Class::Octal => reach(s, at, hi, b'0', b'7', b'0', b'7'),
+        Class::Alnum => reach(s, at, hi, b'A', b'Z', b'0', b'9'),
+        Class::Word => reach_any(s, at, hi, k),
+        Class::Byte(_) => reach_any(s, at, hi, k),
+        Class::Range(_, _) => reach_any(s, at, hi, k),
+        Class::Two(_, _, _, _) => reach_any(s, at, hi, k),
+        Class::Of(_, _, _, _, _) => reach_any(s, at, hi, k),
     }
 }
 
@@ -65,42 +123,101 @@ pub fn run(s: &[u8], r: Scan, k: Class, lo: usize, hi: usize) -> Scan
         return r;
     }
     let at = r.next;
-    let mut i = at;
-    let mut left = hi;
-    while 0 < left {
-        if s.len() <= i {
-            return Scan {
-                next: i,
-                ok: lo <= i - at,
-            };
-        }
-        if is_in(k, s[i]) {
-            i += 1;
-            left -= 1;
-        } else {
-            return Scan {
-                next: i,
-                ok: lo <= i - at,
-            };
-        }
-    }
+    let i = reach_class(s, at, hi, k);
     Scan {
         next: i,
         ok: lo <= i - at,
     }
 }
 
-// One byte of a class.
-pub fn one(s: &[u8], r: Scan, k: Class) -> Scan
-    ensures { λ q. ⌜ q ≡ scan (oneG k) (now (s .entry)) r ⌝ }
+// One byte of a class. There is a function for each kind of class, with its bytes as numbers, so that each becomes a
+// few instructions where it is called.
+pub fn in_range(s: &[u8], r: Scan, a: u8, z: u8) -> Scan
+    ensures { λ q. ⌜ q ≡ scan (oneG (Class.Range a z)) (now (s .entry)) r ⌝ }
 {
-    run(s, r, k, 1, 1)
+    if !r.ok {
+        return r;
+    }
+    let at = r.next;
+    if s.len() <= at {
+        return Scan {
+            next: at,
+            ok: false,
+        };
+    }
+    if is_in(Class::Range(a, z), s[at]) {
+        return Scan {
+            next: at + 1,
+            ok: true,
+        };
+    }
+    Scan {
+        next: at,
+        ok: false,
+    }
 }
 
+pub fn digit(s: &[u8], r: Scan) -> Scan
+    ensures { λ q. ⌜ q ≡ scan (oneG Class.Digit) (now (s .entry)) r ⌝ }
+{
+    in_range(s, r, b'0', b'9')
+}
+
+pub fn letter(s: &[u8], r: Scan) -> Scan
+    ensures { λ q. ⌜ q ≡ scan (oneG Class.Letter) (now (s .entry)) r ⌝ }
+{
+    in_range(s, r, b'A', b'Z')
+}
+
+pub fn one_of(s: &[u8], r: Scan, a: u8, b: u8, c: u8, d: u8, e: u8) -> Scan
+    ensures { λ q. ⌜ q ≡ scan (oneG (Class.Of a b c d e)) (now (s .entry)) r ⌝ }
+{
+    if !r.ok {
+        return r;
+    }
+    let at = r.next;
+    if s.len() <= at {
+        return Scan {
+            next: at,
+            ok: false,
+        };
+    }
+    if is_in(Class::Of(a, b, c, d, e), s[at]) {
+        return Scan {
+            next: at + 1,
+            ok: true,
+        };
+    }
+    Scan {
+        next: at,
+        ok: false,
+    }
+}
+
+// One given byte.
 pub fn byte(s: &[u8], r: Scan, b: u8) -> Scan
     ensures { λ q. ⌜ q ≡ scan (byteG b) (now (s .entry)) r ⌝ }
 {
-    run(s, r, Class::Byte(b), 1, 1)
+    if !r.ok {
+        return r;
+    }
+    let at = r.next;
+    if s.len() <= at {
+        return Scan {
+            next: at,
+            ok: false,
+        };
+    }
+    if s[at] == b {
+        return Scan {
+            next: at + 1,
+            ok: true,
+        };
+    }
+    Scan {
+        next: at,
+        ok: false,
+    }
 }
 
 // A given text.

@@ -11,4 +11,4 @@ counted-spec =
     (λ c κs. tt)
     (λ c κs. tt)
     (λ c κs. tt)
-    (λ c. rw (c .longer .ensures, c .before .one3 .ensures, c .before .before .one2 .ensures, c .before .before .before .one .ensures)))
+    (λ c. rw (c .longer .ensures, c .before .digit .ensures, c .before .before .in-range2 .ensures, c .before .before .before .in-range .ensures)))

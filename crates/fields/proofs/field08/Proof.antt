@@ -12,10 +12,10 @@ field08-spec =
     tie.close
     (tie.spec
     (λ c κs. tt)
-    (λ c κs. forth (run (Of 73 86 89 90 90) 1 1) _ _ _ (c .one .ensures))
+    (λ c κs. forth (run (Of 73 86 89 90 90) 1 1) _ _ _ (c .one-of .ensures))
     (λ c κs. tt)
     (λ c κs. tt)
-    (λ c κs. forth (run (Of 83 78 71 77 88) 1 1) _ _ _ (c .before .one2 .ensures))
+    (λ c κs. forth (run (Of 83 78 71 77 88) 1 1) _ _ _ (c .before .one-of2 .ensures))
     (λ c κs. tt)
     (λ c κs. tt)
-    (λ c. rw (c .longer .ensures, c .before .either .ensures, c .before .before .between2 .ensures, c .before .before .before .none .ensures, c .before .before .before .before .one2 .ensures, c .before .before .before .before .before .between .ensures, c .before .before .before .before .before .before .one .ensures)))
+    (λ c. rw (c .longer .ensures, c .before .either .ensures, c .before .before .between2 .ensures, c .before .before .before .none .ensures, c .before .before .before .before .one-of2 .ensures, c .before .before .before .before .before .between .ensures, c .before .before .before .before .before .before .one-of .ensures)))

@@ -12,4 +12,4 @@ hour-spec =
     (λ c κs. tt)
     (λ c κs. tt)
     (λ c κs. tt)
-    (λ c. rw (c .longer .ensures, c .before .one3 .ensures, c .before .before .one2 .ensures, c .before .before .before .byte .ensures, c .before .before .before .before .one .ensures)))
+    (λ c. rw (c .longer .ensures, c .before .in-range2 .ensures, c .before .before .digit .ensures, c .before .before .before .byte .ensures, c .before .before .before .before .in-range .ensures)))

@@ -9,4 +9,4 @@ minute-spec =
     (tie.spec
     (λ c κs. tt)
     (λ c κs. tt)
-    (λ c. rw (c .one2 .ensures, c .before .one .ensures)))
+    (λ c. rw (c .digit .ensures, c .before .in-range .ensures)))
