@@ -7,3 +7,4 @@ pub mod Theory
 pub mod Parts
 pub mod Bounds
 pub mod Laws
+pub mod Blocks

@@ -1,15 +1,25 @@
 // Scanners that mirror a grammar: each gives where the longest viable beginning ends, and whether it is whole.
 ghost use mathlib.Core.Path.{_≡_};
-ghost use mathlib.Core.Bool.{cond};
+ghost use mathlib.Core.Bool.{cond, false};
 ghost use Prim.Native.Nat.{_≤_, _<_};
 ghost use Rattle.scan.specs.Grammar.{isIn, none as noneOf, run as runG, words as wordsG};
-ghost use Rattle.scan.specs.Scanner.{runAt, scan, longer as longerOf, leads as leadsOf, between16};
+ghost use lib.ListN.{length};
+ghost use Rattle.scan.specs.declared.Class.the-variants.{Word};
+ghost use Rattle.scan.specs.Blocks.{cleanFrom};
+ghost use Rattle.scan.specs.Scanner.{runAt, wordsAt, scan, longer as longerOf, leads as leadsOf, between16};
 ghost use Rattle.scan.specs.Texts.{lit as litG, byte as byteG, one as oneG};
 
 // Where a scan stopped, and whether what it passed is whole.
 pub struct Scan {
     pub next: usize,
     pub ok: bool,
+}
+
+// Where words stand after some of their bytes: the next byte, how many still fit, and whether a word byte stands just before.
+struct Ahead {
+    next: usize,
+    left: usize,
+    mid: bool,
 }
 
 // Where a part of a text stands. An absent part is at 0 and has length 0.
@@ -233,6 +243,81 @@ pub fn lit<'a>(s: &'a [u8], r: Scan, w: &'a [u8]) -> Scan
     q
 }
 
+// Whether a byte is a word byte. Nearly all are letters and digits, so these are tried first.
+fn is_word(b: u8) -> bool
+    ensures { λ r. ⌜ r ≡ isIn Word b ⌝ }
+{
+    if is_in(Class::Alnum, b) {
+        return true;
+    }
+    is_in(Class::Word, b)
+}
+
+// Whether each byte after the first is a word byte, or a blank after a byte that is no blank.
+// It looks at every byte before it answers: a loop with no way out becomes vector code.
+// The flag is kept by `&`: with an `if` around `bad = 1` the compiler made no vectors of so many tests.
+fn words_block(t: &[u8]) -> bool
+    requires { ⌜ 0 < length (now t) ⌝ }
+    ensures { λ r. ⌜ r ≡ cleanFrom (now (t .entry)) 1 ⌝ }
+{
+    let mut ok = true;
+    let mut j = 1;
+    while j < t.len() {
+        let w = is_in(Class::Word, t[j]);
+        let b = is_in(Class::Byte(b' '), t[j]);
+        let p = is_in(Class::Byte(b' '), t[j - 1]);
+        ok = ok & (w | (!p & b));
+        j += 1;
+    }
+    ok
+}
+
+// How far words go by blocks of sixteen bytes. Each block is seen with the byte before it, so the first byte goes alone.
+// A block is passed only where a byte more fits, so a blank at its end is within the limit.
+fn words_ahead(s: &[u8], i: usize, k: usize) -> Ahead
+    ensures { λ r. ⌜ wordsAt (r .left) (r .mid) (now (s .entry)) (r .next) ≡ wordsAt k false (now (s .entry)) i ⌝ }
+{
+    if k <= 17 {
+        return Ahead {
+            next: i,
+            left: k,
+            mid: false,
+        };
+    }
+    if s.len() <= i {
+        return Ahead {
+            next: i,
+            left: k,
+            mid: false,
+        };
+    }
+    if !is_in(Class::Word, s[i]) {
+        return Ahead {
+            next: i,
+            left: k,
+            mid: false,
+        };
+    }
+    let mut j = i;
+    let mut left = k - 1;
+    while 16 < left {
+        if s.len() < j + 17 {
+            break;
+        }
+        if !words_block(&s[j..j + 17]) {
+            break;
+        }
+        j += 16;
+        left -= 16;
+    }
+    let blank = is_in(Class::Byte(b' '), s[j]);
+    Ahead {
+        next: j + 1,
+        left,
+        mid: !blank,
+    }
+}
+
 // Runs of word bytes with one blank between, at most k bytes.
 pub fn words(s: &[u8], r: Scan, k: usize) -> Scan
     ensures { λ q. ⌜ q ≡ scan (wordsG k) (now (s .entry)) r ⌝ }
@@ -240,15 +325,16 @@ pub fn words(s: &[u8], r: Scan, k: usize) -> Scan
     if !r.ok {
         return r;
     }
-    let mut i = r.next;
-    let mut left = k;
-    let mut m = false;
+    let a = words_ahead(s, r.next, k);
+    let mut i = a.next;
+    let mut left = a.left;
+    let mut m = a.mid;
     while 0 < left {
         if s.len() <= i {
             return Scan { next: i, ok: m };
         }
         let b = s[i];
-        if is_in(Class::Word, b) {
+        if is_word(b) {
             m = true;
             i += 1;
             left -= 1;

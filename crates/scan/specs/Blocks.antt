@@ -1,0 +1,123 @@
+-- Words by blocks: a block whose bytes are all word bytes, or blanks after a byte that is none, is passed at once.
+-- The code's loops use it; nothing public cites it.
+use mathlib.Core.Path.{_≡_, sym, ap, _∙_}
+use mathlib.Core.Logic.{_⊎_, inl, inr, ⊎-elim}
+use mathlib.Core.Bool.{Bool, true, false, not, _&&_, _||_, false≢true}
+use mathlib.Core.List.{List, [], _∷_}
+use Prim.Native.Nat.{ℕ, zero, suc, _+_, _-_, _≤_, _<_}
+use native.Mathlib.Omega.{arith}
+use native.Mathlib.Numerals.{add-one}
+use lib.Dec.{leb, ltb}
+use lib.ListN.{length, getD, take, drop, drop-of-length-le}
+use lib.Seq.{drop-cons}
+use borrow.Author.Tests.{lt-ltb, leb-true, le-leb}
+use Rattle.scan.specs.declared.Class.the-variants.{Alnum, Word, Byte}
+use Rattle.scan.specs.Grammar.{isIn, has}
+use Rattle.scan.specs.Scanner.{wordsAt}
+use Rattle.scan.specs.Bools.{and-l, and-r, both, or-split, or-l, or-r, known}
+use Rattle.scan.specs.Laws.{words-on, words-gap}
+
+-- whether a byte may follow another
+unfoldable pub follows : ℕ → ℕ → Bool
+follows p x = isIn Word x || (not (isIn (Byte 32) p) && isIn (Byte 32) x)
+
+pub follows-is : (p x : ℕ) (w b q : Bool) → w ≡ isIn Word x → b ≡ isIn (Byte 32) x → q ≡ isIn (Byte 32) p → follows p x ≡ (w || (not q && b))
+unfolding follows
+follows-is p x w b q e f g = rw (e, f, g)
+
+-- every byte of w may follow the one before it, the first one p
+unfoldable pub clean : ℕ → List ℕ → Bool
+clean p [] = true
+clean p (x ∷ w) = follows p x && clean x w
+
+-- the same of the bytes from index j on
+unfoldable pub cleanFrom : List ℕ → ℕ → Bool
+cleanFrom t j = clean (getD t (j - 1) 0) (drop j t)
+
+-- THE TEST, BYTE BY BYTE
+
+-- ok: whether the bytes before j are clean, all: whether every byte is
+pub clean-next : (t : List ℕ) (j : ℕ) (ok f all : Bool) → j < length t → follows (getD t (j - 1) 0) (getD t j 0) ≡ f → all ≡ (ok && cleanFrom t j) → all ≡ ((ok && f) && cleanFrom t (j + 1))
+unfolding clean cleanFrom
+clean-next t j true f all h q e = let n : j + 1 - 1 ≡ j = omega arith in e ∙ rw (drop-cons t j 0 h, q, n, add-one)
+clean-next t j false f all h q e = e
+
+pub clean-end : (t : List ℕ) (j : ℕ) (ok all : Bool) → length t ≤ j → all ≡ (ok && cleanFrom t j) → ok ≡ all
+unfolding clean cleanFrom
+clean-end t j true all h e = sym (e ∙ rw (drop-of-length-le t h))
+clean-end t j false all h e = sym e
+
+-- WHAT A CLEAN BLOCK SAYS OF THE WORDS
+
+-- a word byte is no blank
+pub no-blank : (x : ℕ) → isIn Word x ≡ true → isIn (Byte 32) x ≡ false
+no-blank x e = ⊎-elim (λ b. absurd (no b)) (λ b. b) (known (isIn (Byte 32) x))
+  where
+    no : isIn (Byte 32) x ≡ true → ⊥
+    no b =
+        let n : x ≡ 32 = omega (arith, leb-true 32 x (and-l (leb 32 x) (leb x 32) b), leb-true x 32 (and-r (leb 32 x) (leb x 32) b)) in
+        false≢true (rw n at e)
+
+-- a letter or digit is a word byte
+pub alnum-word : (x : ℕ) → isIn Alnum x ≡ true → isIn Word x ≡ true
+alnum-word x e = ⊎-elim digit letter (or-split (leb 48 x && leb x 57) (leb 65 x && leb x 90) e)
+  where
+    letter : leb 65 x && leb x 90 ≡ true → isIn Word x ≡ true
+    letter f = or-r (has ((46, 58) ∷ (43, 44) ∷ (39, 39) ∷ (63, 63) ∷ []) x) (leb 65 x && leb x 90) f
+
+    digit : leb 48 x && leb x 57 ≡ true → isIn Word x ≡ true
+    digit f =
+        let a = leb-true 48 x (and-l (leb 48 x) (leb x 57) f) in
+        let b = leb-true x 57 (and-r (leb 48 x) (leb x 57) f) in
+        let g : leb 46 x && leb x 58 ≡ true = both (leb 46 x) (leb x 58) (le-leb 46 x (omega arith)) (le-leb x 58 (omega arith)) in
+        or-l (has ((46, 58) ∷ (43, 44) ∷ (39, 39) ∷ (63, 63) ∷ []) x) (leb 65 x && leb x 90) (or-r (has ((43, 44) ∷ (39, 39) ∷ (63, 63) ∷ []) x) (leb 46 x && leb x 58) g)
+
+-- where the byte j is a word byte or a blank, whether it is a word byte is whether it is no blank
+abbrev pub mid : List ℕ → ℕ → Bool
+mid s j = not (isIn (Byte 32) (getD s j 0))
+
+step : (s : List ℕ) (j k : ℕ) → 1 < k → j + 1 < length s → follows (getD s j 0) (getD s (j + 1) 0) ≡ true → wordsAt k (mid s j) s (j + 1) ≡ wordsAt (k - 1) (mid s (j + 1)) s (j + 1 + 1)
+unfolding follows
+step s j k z h f = go (known (isIn Word (getD s (j + 1) 0)))
+  where
+    x : ℕ
+    x = getD s (j + 1) 0
+
+    goal : Type 0
+    goal = wordsAt k (mid s j) s (j + 1) ≡ wordsAt (k - 1) (mid s (j + 1)) s (j + 1 + 1)
+
+    go : (isIn Word x ≡ true) ⊎ (isIn Word x ≡ false) → goal
+    go (inl w) = words-on s (j + 1) (mid s j) k (omega arith) h w ∙ ap (λ (b : Bool). wordsAt (k - 1) (not b) s (j + 1 + 1)) (sym (no-blank x w))
+    go (inr w) =
+        let g : mid s j && isIn (Byte 32) x ≡ true = rw w at f in
+        let b = and-r (mid s j) (isIn (Byte 32) x) g in
+        words-gap s (j + 1) (mid s j) k (omega arith) h w (both (mid s j && isIn (Byte 32) x) (ltb 1 k) g (lt-ltb 1 k z)) ∙ ap (λ (b : Bool). wordsAt (k - 1) (not b) s (j + 1 + 1)) (sym b)
+
+steps : (n : ℕ) (s : List ℕ) (j k : ℕ) → n < k → j + 1 + n ≤ length s → clean (getD s j 0) (take n (drop (j + 1) s)) ≡ true → wordsAt k (mid s j) s (j + 1) ≡ wordsAt (k - n) (mid s (j + n)) s (j + n + 1)
+unfolding clean
+steps zero s j k z h e =
+    let a : k - 0 ≡ k = omega arith in
+    let b : j + 0 ≡ j = omega arith in
+    rw (a, b)
+steps (suc n) s j k z h e =
+    let l : j + 1 < length s = omega arith in
+    let d : drop (j + 1) s ≡ getD s (j + 1) 0 ∷ drop (j + 1 + 1) s = rw (add-one (j + 1)) (drop-cons s (j + 1) 0 l) in
+    let f : Bool = follows (getD s j 0) (getD s (j + 1) 0) in
+    let g : Bool = clean (getD s (j + 1) 0) (take n (drop (j + 1 + 1) s)) in
+    let p : f && g ≡ true = rw d at e in
+    let r = steps n s (j + 1) (k - 1) (omega arith) (omega arith) (and-r f g p) in
+    let a : k - 1 - n ≡ k - suc n = omega arith in
+    let b : j + 1 + n ≡ j + suc n = omega arith in
+    step s j k (omega arith) l (and-l f g p) ∙ r ∙ rw (a, b)
+
+-- THE LAW: over a block, with the byte before it
+pub block : (s : List ℕ) (j k : ℕ) → 16 < k → j + 17 ≤ length s → cleanFrom (take (j + 17 - j) (drop j s)) 1 ≡ true → wordsAt k (mid s j) s (j + 1) ≡ wordsAt (k - 16) (mid s (j + 16)) s (j + 16 + 1)
+unfolding cleanFrom
+block s j k z h e =
+    let n : j + 17 - j ≡ 17 = omega arith in
+    let d : drop j s ≡ getD s j 0 ∷ drop (j + 1) s = rw (add-one j) (drop-cons s j 0 (omega arith)) in
+    steps 16 s j k z (omega arith) (rw (n, d) at e)
+
+-- the first byte, which no blank may be
+pub first : (s : List ℕ) (j k : ℕ) → 0 < k → j < length s → isIn Word (getD s j 0) ≡ true → wordsAt (k - 1) (mid s j) s (j + 1) ≡ wordsAt k false s j
+first s j k z h w = sym (words-on s j false k z h w ∙ ap (λ (b : Bool). wordsAt (k - 1) (not b) s (j + 1)) (sym (no-blank (getD s j 0) w)))
