@@ -4,7 +4,7 @@
     make_vectors.py EXAMPLES BY_HAND VECTORS GUIDE
 
 EXAMPLES is the table of the example messages of source document 001 and
-BY_HAND the texts whose results were worked out from document 01 by a person;
+BY_HAND the texts whose results were worked out from document 01 by hand;
 both carry their own results, and nothing is written if the oracle differs
 from one of them.  The other texts are made here, in the order of the fields,
 and the oracle gives their results.  VECTORS has on each line the result (the
