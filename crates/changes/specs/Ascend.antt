@@ -76,9 +76,6 @@ with15 f t = record { end = t .end; plan = put n.route (f .route) (put n.level (
 abbrev pub with16 : Found16 → Found22 → Found22
 with16 f t = record { end = t .end; plan = put n.alternate2 (f .alternate2) (put n.alternate (f .alternate) (put n.elapsed (f .elapsed) (put n.destination (f .destination) (t .plan)))) }
 
-abbrev pub with18 : Found18 → Found22 → Found22
-with18 f t = record { end = t .end; plan = put n.other (f .other) (put n.indicator (f .indicator) (t .plan)) }
-
 -- what the parts of g, found after its key, add to what follows
 abbrev pub Adds : List ℕ → G → List ℕ → Scan → (Found22 → Found22) → Type 0
 Adds key g s r f = (t : G) → f (found22 t s (scan g s (scan (lit key) s r))) ≡ found22 (lit key ⨾ g ⨾ t) s r
@@ -95,10 +92,6 @@ key07 = 48 ∷ 55 ∷ 47 ∷ []
 
 pub is07 : (s : List ℕ) (r a : Scan) (f : Found07) → a ≡ scan (lit key07) s r → f ≡ found07 0 s a → f ≡ found07 n.amended s (scan (lit key07) s r)
 is07 s r a f e h = h ∙ ap {B = Found07} (λ (x : Scan). found07 0 s x) e ∙ sym (same07 s (scan (lit key07) s r))
-
-pub adds07 : (s : List ℕ) (r : Scan) (f : Found07) → f ≡ found07 n.amended s (scan (lit key07) s r) → Adds key07 (g07 n.amended) s r (with07 f)
-unfolding found22 among occurs spanBy
-adds07 s r f h t = ap {B = Found22} (λ (x : Found07). with07 x (found22 t s (scan (g07 n.amended) s (scan (lit key07) s r)))) h
 
 abbrev pub key08 : List ℕ
 key08 = 48 ∷ 56 ∷ 47 ∷ []
@@ -165,10 +158,6 @@ key18 = 49 ∷ 56 ∷ 47 ∷ []
 
 pub is18 : (s : List ℕ) (r a : Scan) (f : Found18) → a ≡ scan (lit key18) s r → f ≡ found18 0 s a → f ≡ found18 n.amended s (scan (lit key18) s r)
 is18 s r a f e h = h ∙ ap {B = Found18} (λ (x : Scan). found18 0 s x) e ∙ sym (same18 s (scan (lit key18) s r))
-
-pub adds18 : (s : List ℕ) (r : Scan) (f : Found18) → f ≡ found18 n.amended s (scan (lit key18) s r) → Adds key18 (g18 n.amended) s r (with18 f)
-unfolding found22 among occurs spanBy
-adds18 s r f h t = ap {B = Found22} (λ (x : Found18). with18 x (found22 t s (scan (g18 n.amended) s (scan (lit key18) s r)))) h
 
 -- 07 stands alone
 pub alone07 : (s : List ℕ) (r : Scan) (f : Found07) → f ≡ found07 n.amended s (scan (lit key07) s r) → with07 f (nothing22 (f .end)) ≡ found22 (lit key07 ⨾ g07 n.amended) s r

@@ -632,10 +632,6 @@ accepts g e s = (to (place g e s), of (place g e s))
         let n : scanAt g s 0 .next ≡ length s = omega (arith, ρ .within, ρ .longest (length s) (omega arith) ([], rw (take-length, append-nil) d)) in
         (ρ .whole .1 (rw (n, take-length) d), n)
 
--- the same of what a function returned
-pub place-of : (g : G) → good g ≡ true → (s : List ℕ) (q : Scan) → q ≡ scanAt g s 0 → Place g s q
-place-of g e s q h = rw h (place g e s)
-
 pub accepts-of : (g : G) → good g ≡ true → (s : List ℕ) (q : Scan) → q ≡ scanAt g s 0 → (q .ok && eqb (q .next) (length s) ≡ true) ↔ Derives g s
 accepts-of g e s q h = rw h (to, of)
   where
@@ -672,19 +668,3 @@ part-of g e s r q h o = go (known (r .ok))
 
 pub ok-before : (g : G) (s : List ℕ) (r q : Scan) → q ≡ scan g s r → q .ok ≡ true → r .ok ≡ true
 ok-before g s r q h o = ⊎-elim (λ y. y) (λ n. absurd (false≢true (sym n ∙ ap (λ (z : Scan). z .ok) (sym (h ∙ skip g s r n)) ∙ o))) (known (r .ok))
-
--- one byte more is not viable
-pub place-next : (g : G) (s : List ℕ) (r : Scan) → Place g s r → r .next < length s → Viable g (take (r .next + 1) s) → ⊥
-place-next g s r p h v = omega (arith, p .longest (r .next + 1) (omega arith) v)
-
--- the statement leaves no choice
-pub place-one : (g : G) (s : List ℕ) (r q : Scan) → Place g s r → Place g s q → r ≡ q
-place-one g s r q p o =
-    let n : r .next ≡ q .next = omega (arith, p .longest (q .next) (o .within) (o .viable), o .longest (r .next) (p .within) (p .viable)) in
-    let k : r .ok ≡ q .ok = same-test (r .ok) (q .ok) (λ e. o .whole .1 (rw n at (p .whole .0 e))) (λ e. p .whole .1 (rw n (o .whole .0 e))) in
-    λ i. record { next = n i; ok = k i }
-  where
-    same-test : (a b : Bool) → (a ≡ true → b ≡ true) → (b ≡ true → a ≡ true) → a ≡ b
-    same-test true b f g = sym (f refl)
-    same-test false true f g = g refl
-    same-test false false f g = refl
