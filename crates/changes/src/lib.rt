@@ -3,7 +3,6 @@ ghost use mathlib.Core.Path.{_≡_};
 ghost use Rattle.fields.specs.Fields.{nothing18, three18, four18, _─_};
 ghost use Rattle.changes.specs.Changes.{from18 as from18G, from16 as from16G, from15 as from15G, from13 as from13G, from10 as from10G, from09 as from09G, from08 as from08G, changes as changesG, changed as changedG};
 ghost use Rattle.changes.specs.Found.{noPlan, found22, eitherFound22, nothing22, foundTail, eitherFoundTail};
-use scan::Class;
 use scan::Scan;
 use scan::Span;
 
@@ -327,7 +326,7 @@ fn with_nothing18(s: &[u8], r: Scan) -> FoundTail
 fn with_three18(s: &[u8], r: Scan) -> FoundTail
     ensures { λ q. ⌜ q ≡ foundTail (three18 0 ─ changesG) (now (s .entry)) r ⌝ }
 {
-    let a = scan::run(s, r, Class::Letter, 3, 3);
+    let a = scan::letters(s, r, 3, 3);
     let b = scan::byte(s, a, b'/');
     let c = scan::words(s, b, 296);
     let f = changes(s, scan::byte(s, c, b'-'));
@@ -345,7 +344,7 @@ fn with_three18(s: &[u8], r: Scan) -> FoundTail
 fn with_four18(s: &[u8], r: Scan) -> FoundTail
     ensures { λ q. ⌜ q ≡ foundTail (four18 0 ─ changesG) (now (s .entry)) r ⌝ }
 {
-    let a = scan::run(s, r, Class::Letter, 4, 4);
+    let a = scan::letters(s, r, 4, 4);
     let b = scan::byte(s, a, b'/');
     let c = scan::words(s, b, 295);
     let f = changes(s, scan::byte(s, c, b'-'));

@@ -4,7 +4,6 @@ ghost use Prim.Native.Nat.{_≤_};
 ghost use Rattle.scan.specs.Scanner.{scan as scanG};
 ghost use Rattle.fields.specs.Fields.{counted as countedG, hour as hourG, minute as minuteG, timed, level3 as level3G, level4 as level4G, levelled, bearing as bearingG, bearingFrom, degrees as degreesG, minutes as minutesG, pointed};
 ghost use Rattle.fields.specs.Found.{foundNumber, found07, found08, found09, found10, found13, found13o, found14, foundRouted, eitherFound15, foundAfter15, foundSped, found15, foundAlternates, found16, found18};
-use scan::Class;
 use scan::Scan;
 use scan::Span;
 
@@ -81,10 +80,10 @@ pub struct Found18 {
 pub fn number(s: &[u8], r: Scan) -> FoundNumber
     ensures { λ q. ⌜ q ≡ foundNumber (now (s .entry)) r ⌝ }
 {
-    let a = scan::run(s, r, Class::Letter, 4, 4);
+    let a = scan::letters(s, r, 4, 4);
     let b = scan::byte(s, a, b'/');
-    let c = scan::run(s, b, Class::Letter, 4, 4);
-    let d = scan::run(s, c, Class::Digit, 3, 3);
+    let c = scan::letters(s, b, 4, 4);
+    let d = scan::digits(s, c, 3, 3);
     FoundNumber {
         end: d,
         sender: scan::between(r, a),
@@ -96,10 +95,10 @@ pub fn number(s: &[u8], r: Scan) -> FoundNumber
 pub fn field07(s: &[u8], r: Scan) -> Found07
     ensures { λ q. ⌜ q ≡ found07 0 (now (s .entry)) r ⌝ }
 {
-    let a = scan::run(s, r, Class::Alnum, 2, 7);
+    let a = scan::alnums(s, r, 2, 7);
     let aircraft = scan::between(r, a);
     let b = scan::lit(s, a, b"/A");
-    let c = scan::run(s, b, Class::Octal, 4, 4);
+    let c = scan::octals(s, b, 4, 4);
     let code = scan::either(a, c, scan::none(), scan::between(b, c));
     Found07 {
         end: scan::longer(a, c),
@@ -138,7 +137,7 @@ pub fn field09(s: &[u8], r: Scan) -> Found09
     let count = scan::either(r, n, scan::none(), scan::between(r, n));
     let a = scan::longer(r, n);
     let l = scan::letter(s, a);
-    let b = scan::run(s, l, Class::Alnum, 1, 3);
+    let b = scan::alnums(s, l, 1, 3);
     let model = scan::between(a, b);
     let c = scan::byte(s, b, b'/');
     let d = scan::one_of(s, c, b'L', b'M', b'H', b'H', b'H');
@@ -154,10 +153,10 @@ pub fn field09(s: &[u8], r: Scan) -> Found09
 pub fn field10(s: &[u8], r: Scan) -> Found10
     ensures { λ q. ⌜ q ≡ found10 0 (now (s .entry)) r ⌝ }
 {
-    let a = scan::run(s, r, Class::Alnum, 1, 40);
+    let a = scan::alnums(s, r, 1, 40);
     let equipment = scan::between(r, a);
     let b = scan::byte(s, a, b'/');
-    let c = scan::run(s, b, Class::Alnum, 1, 20);
+    let c = scan::alnums(s, b, 1, 20);
     let surveillance = scan::between(b, c);
     Found10 {
         end: c,
@@ -191,7 +190,7 @@ fn time(s: &[u8], r: Scan) -> Scan
 pub fn field13(s: &[u8], r: Scan) -> Found13
     ensures { λ q. ⌜ q ≡ found13 0 (now (s .entry)) r ⌝ }
 {
-    let a = scan::run(s, r, Class::Letter, 4, 4);
+    let a = scan::letters(s, r, 4, 4);
     let departure = scan::between(r, a);
     let b = time(s, a);
     let time = scan::between(a, b);
@@ -206,7 +205,7 @@ pub fn field13(s: &[u8], r: Scan) -> Found13
 pub fn field13o(s: &[u8], r: Scan) -> Found13
     ensures { λ q. ⌜ q ≡ found13o (now (s .entry)) r ⌝ }
 {
-    let a = scan::run(s, r, Class::Letter, 4, 4);
+    let a = scan::letters(s, r, 4, 4);
     let departure = scan::between(r, a);
     let b = time(s, a);
     let time = scan::either(a, b, scan::none(), scan::between(a, b));
@@ -222,7 +221,7 @@ fn level3(s: &[u8], r: Scan) -> Scan
     ensures { λ q. ⌜ q ≡ scanG level3G (now (s .entry)) r ⌝ }
 {
     let a = scan::one_of(s, r, b'F', b'A', b'A', b'A', b'A');
-    scan::run(s, a, Class::Digit, 3, 3)
+    scan::digits(s, a, 3, 3)
 }
 
 // S or M with four digits.
@@ -230,7 +229,7 @@ fn level4(s: &[u8], r: Scan) -> Scan
     ensures { λ q. ⌜ q ≡ scanG level4G (now (s .entry)) r ⌝ }
 {
     let a = scan::one_of(s, r, b'S', b'M', b'M', b'M', b'M');
-    scan::run(s, a, Class::Digit, 4, 4)
+    scan::digits(s, a, 4, 4)
 }
 
 fn level(s: &[u8], r: Scan) -> Scan
@@ -245,7 +244,7 @@ fn bearing(s: &[u8], r: Scan) -> Scan
     ensures { λ q. ⌜ q ≡ scanG bearingG (now (s .entry)) r ⌝ }
 {
     let a = scan::in_range(s, r, b'0', b'2');
-    let b = scan::run(s, a, Class::Digit, 2, 2);
+    let b = scan::digits(s, a, 2, 2);
     let c = scan::byte(s, r, b'3');
     let d = scan::in_range(s, c, b'0', b'5');
     let e = scan::digit(s, d);
@@ -257,9 +256,9 @@ fn bearing(s: &[u8], r: Scan) -> Scan
 fn bearing_from(s: &[u8], r: Scan, k: usize) -> Scan
     ensures { λ q. ⌜ q ≡ scanG (bearingFrom k) (now (s .entry)) r ⌝ }
 {
-    let a = scan::run(s, r, Class::Alnum, k, k);
+    let a = scan::alnums(s, r, k, k);
     let b = bearing(s, a);
-    scan::run(s, b, Class::Digit, 3, 3)
+    scan::digits(s, b, 3, 3)
 }
 
 // As 46N078W.
@@ -271,7 +270,7 @@ fn degrees(s: &[u8], r: Scan) -> Scan
     let c = scan::longer(b, scan::lit(s, r, b"90"));
     let d = scan::one_of(s, c, b'N', b'S', b'S', b'S', b'S');
     let e = scan::byte(s, d, b'0');
-    let f = scan::run(s, e, Class::Digit, 2, 2);
+    let f = scan::digits(s, e, 2, 2);
     let g = scan::byte(s, d, b'1');
     let h = scan::in_range(s, g, b'0', b'7');
     let i = scan::digit(s, h);
@@ -289,7 +288,7 @@ fn minutes(s: &[u8], r: Scan) -> Scan
     let c = scan::longer(b, scan::lit(s, r, b"9000"));
     let d = scan::one_of(s, c, b'N', b'S', b'S', b'S', b'S');
     let e = scan::byte(s, d, b'0');
-    let f = minute(s, scan::run(s, e, Class::Digit, 2, 2));
+    let f = minute(s, scan::digits(s, e, 2, 2));
     let g = scan::byte(s, d, b'1');
     let h = scan::in_range(s, g, b'0', b'7');
     let i = minute(s, scan::digit(s, h));
@@ -301,7 +300,7 @@ fn minutes(s: &[u8], r: Scan) -> Scan
 fn point(s: &[u8], r: Scan) -> Scan
     ensures { λ q. ⌜ q ≡ scanG pointed (now (s .entry)) r ⌝ }
 {
-    let a = scan::run(s, r, Class::Alnum, 2, 5);
+    let a = scan::alnums(s, r, 2, 5);
     let b = bearing_from(s, r, 2);
     let c = bearing_from(s, r, 3);
     let d = bearing_from(s, r, 4);
@@ -392,9 +391,9 @@ pub fn field15(s: &[u8], r: Scan) -> Found15
     ensures { λ q. ⌜ q ≡ found15 0 (now (s .entry)) r ⌝ }
 {
     let a = scan::one_of(s, r, b'K', b'N', b'N', b'N', b'N');
-    let b = sped(s, r, scan::run(s, a, Class::Digit, 4, 4), 295);
+    let b = sped(s, r, scan::digits(s, a, 4, 4), 295);
     let d = scan::byte(s, r, b'M');
-    let e = sped(s, r, scan::run(s, d, Class::Digit, 3, 3), 296);
+    let e = sped(s, r, scan::digits(s, d, 3, 3), 296);
     either15(b, e)
 }
 
@@ -403,9 +402,9 @@ fn alternates(s: &[u8], r: Scan) -> Found16
     ensures { λ q. ⌜ q ≡ foundAlternates (now (s .entry)) r ⌝ }
 {
     let a = scan::byte(s, r, b' ');
-    let b = scan::run(s, a, Class::Letter, 4, 4);
+    let b = scan::letters(s, a, 4, 4);
     let c = scan::byte(s, b, b' ');
-    let d = scan::run(s, c, Class::Letter, 4, 4);
+    let d = scan::letters(s, c, 4, 4);
     let e = scan::longer(b, d);
     let two = scan::either(b, d, scan::none(), scan::between(c, d));
     Found16 {
@@ -420,9 +419,9 @@ fn alternates(s: &[u8], r: Scan) -> Found16
 pub fn field16(s: &[u8], r: Scan) -> Found16
     ensures { λ q. ⌜ q ≡ found16 0 (now (s .entry)) r ⌝ }
 {
-    let a = scan::run(s, r, Class::Letter, 4, 4);
+    let a = scan::letters(s, r, 4, 4);
     let destination = scan::between(r, a);
-    let h = scan::run(s, a, Class::Digit, 2, 2);
+    let h = scan::digits(s, a, 2, 2);
     let b = minute(s, h);
     let elapsed = scan::either(a, b, scan::none(), scan::between(a, b));
     let c = alternates(s, scan::longer(a, b));
@@ -442,10 +441,10 @@ pub fn field18(s: &[u8], r: Scan) -> Found18
     ensures { λ q. ⌜ q ≡ found18 0 (now (s .entry)) r ⌝ }
 {
     let a = scan::byte(s, r, b'0');
-    let b = scan::run(s, r, Class::Letter, 3, 3);
+    let b = scan::letters(s, r, 3, 3);
     let c = scan::byte(s, b, b'/');
     let d = scan::words(s, c, 296);
-    let e = scan::run(s, r, Class::Letter, 4, 4);
+    let e = scan::letters(s, r, 4, 4);
     let f = scan::byte(s, e, b'/');
     let g = scan::words(s, f, 295);
     let h = scan::longer(d, g);

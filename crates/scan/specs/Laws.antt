@@ -60,10 +60,9 @@ run-forth c (suc k) s at = go (ltb at (length s) && isIn c (getD s at 0)) (run-f
     go true h = omega arith
     go false h = omega arith
 
--- and so does one byte of them
-pub one-alike : (c d : Class) → ((x : ℕ) → isIn c x ≡ isIn d x) → (s : List ℕ) (r : Scan) → runScan c 1 1 s r ≡ runScan d 1 1 s r
+pub scan-alike : (c d : Class) → ((x : ℕ) → isIn c x ≡ isIn d x) → (lo hi : ℕ) (s : List ℕ) (r : Scan) → runScan c lo hi s r ≡ runScan d lo hi s r
 unfolding runScan
-one-alike c d e s r = rw (run-alike c d e 1 s (r .next))
+scan-alike c d e lo hi s r = rw (run-alike c d e hi s (r .next))
 
 -- a class of one byte
 pub is-byte : (b x : ℕ) → x ≡ b → isIn (Byte b) x ≡ true

@@ -89,55 +89,44 @@ fn reach(s: &[u8], at: usize, hi: usize, a: u8, z: u8, b: u8, y: u8) -> usize
     i
 }
 
-// How far bytes of a class go on, at most hi of them.
-fn reach_any(s: &[u8], at: usize, hi: usize, k: Class) -> usize
-    ensures { λ i. ⌜ i ≡ runAt k hi (now (s .entry)) at ⌝ }
-{
-    let mut i = at;
-    let mut left = hi;
-    while 0 < left {
-        if s.len() <= i {
-            return i;
-        }
-        if !is_in(k, s[i]) {
-            return i;
-        }
-        i += 1;
-        left -= 1;
-    }
-    i
-}
-
-// The same, by the ranges of the classes that fields are made of.
-fn reach_class(s: &[u8], at: usize, hi: usize, k: Class) -> usize
-    ensures { λ i. ⌜ i ≡ runAt k hi (now (s .entry)) at ⌝ }
-{
-    match k {
-        Class::Letter => reach(s, at, hi, b'A', b'Z', b'A', b'Z'),
-        Class::Digit => reach(s, at, hi, b'0', b'9', b'0', b'9'),
-        Class::Octal => reach(s, at, hi, b'0', b'7', b'0', b'7'),
-        Class::Alnum => reach(s, at, hi, b'A', b'Z', b'0', b'9'),
-        Class::Word => reach_any(s, at, hi, k),
-        Class::Byte(_) => reach_any(s, at, hi, k),
-        Class::Range(_, _) => reach_any(s, at, hi, k),
-        Class::Two(_, _, _, _) => reach_any(s, at, hi, k),
-        Class::Of(_, _, _, _, _) => reach_any(s, at, hi, k),
-    }
-}
-
-// From lo to hi bytes of a class.
-pub fn run(s: &[u8], r: Scan, k: Class, lo: usize, hi: usize) -> Scan
-    ensures { λ q. ⌜ q ≡ scan (runG k lo hi) (now (s .entry)) r ⌝ }
+// From lo to hi bytes from a to z or from b to y.
+fn run_two(s: &[u8], r: Scan, lo: usize, hi: usize, a: u8, z: u8, b: u8, y: u8) -> Scan
+    ensures { λ q. ⌜ q ≡ scan (runG (Class.Two a z b y) lo hi) (now (s .entry)) r ⌝ }
 {
     if !r.ok {
         return r;
     }
     let at = r.next;
-    let i = reach_class(s, at, hi, k);
+    let i = reach(s, at, hi, a, z, b, y);
     Scan {
         next: i,
         ok: lo <= i - at,
     }
+}
+
+// From lo to hi bytes of a class: a function for each class, as for one byte.
+pub fn letters(s: &[u8], r: Scan, lo: usize, hi: usize) -> Scan
+    ensures { λ q. ⌜ q ≡ scan (runG Class.Letter lo hi) (now (s .entry)) r ⌝ }
+{
+    run_two(s, r, lo, hi, b'A', b'Z', b'A', b'Z')
+}
+
+pub fn digits(s: &[u8], r: Scan, lo: usize, hi: usize) -> Scan
+    ensures { λ q. ⌜ q ≡ scan (runG Class.Digit lo hi) (now (s .entry)) r ⌝ }
+{
+    run_two(s, r, lo, hi, b'0', b'9', b'0', b'9')
+}
+
+pub fn octals(s: &[u8], r: Scan, lo: usize, hi: usize) -> Scan
+    ensures { λ q. ⌜ q ≡ scan (runG Class.Octal lo hi) (now (s .entry)) r ⌝ }
+{
+    run_two(s, r, lo, hi, b'0', b'7', b'0', b'7')
+}
+
+pub fn alnums(s: &[u8], r: Scan, lo: usize, hi: usize) -> Scan
+    ensures { λ q. ⌜ q ≡ scan (runG Class.Alnum lo hi) (now (s .entry)) r ⌝ }
+{
+    run_two(s, r, lo, hi, b'A', b'Z', b'0', b'9')
 }
 
 // One byte of a class. There is a function for each kind of class, with its bytes as numbers, so that each becomes a

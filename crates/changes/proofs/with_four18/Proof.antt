@@ -17,6 +17,6 @@ with-four18-spec =
     (λ c κs. tt)
     (λ c κs. tt)
     (λ c κs. tt)
-    (λ c κs. forth (run Letter 4 4) _ _ _ (c .before .before .before .before .before .before .run .ensures))
+    (λ c κs. forth (run Letter 4 4) _ _ _ (c .before .before .before .before .before .before .letters .ensures))
     (λ c κs. forth (words 295) _ _ _ (c .before .before .before .before .before .words .ensures))
-    (λ c. rw (c .between2 .ensures, c .before .between .ensures, c .before .before .before .before .changes .ensures, c .before .before .before .before .before .byte2 .ensures, c .before .before .before .before .before .before .words .ensures, c .before .before .before .before .before .before .before .byte .ensures, c .before .before .before .before .before .before .before .before .run .ensures)))
+    (λ c. rw (c .between2 .ensures, c .before .between .ensures, c .before .before .before .before .changes .ensures, c .before .before .before .before .before .byte2 .ensures, c .before .before .before .before .before .before .words .ensures, c .before .before .before .before .before .before .before .byte .ensures, c .before .before .before .before .before .before .before .before .letters .ensures)))

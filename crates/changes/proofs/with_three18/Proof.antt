@@ -17,6 +17,6 @@ with-three18-spec =
     (λ c κs. tt)
     (λ c κs. tt)
     (λ c κs. tt)
-    (λ c κs. forth (run Letter 3 3) _ _ _ (c .before .before .before .before .before .before .run .ensures))
+    (λ c κs. forth (run Letter 3 3) _ _ _ (c .before .before .before .before .before .before .letters .ensures))
     (λ c κs. forth (words 296) _ _ _ (c .before .before .before .before .before .words .ensures))
-    (λ c. rw (c .between2 .ensures, c .before .between .ensures, c .before .before .before .before .changes .ensures, c .before .before .before .before .before .byte2 .ensures, c .before .before .before .before .before .before .words .ensures, c .before .before .before .before .before .before .before .byte .ensures, c .before .before .before .before .before .before .before .before .run .ensures)))
+    (λ c. rw (c .between2 .ensures, c .before .between .ensures, c .before .before .before .before .changes .ensures, c .before .before .before .before .before .byte2 .ensures, c .before .before .before .before .before .before .words .ensures, c .before .before .before .before .before .before .before .byte .ensures, c .before .before .before .before .before .before .before .before .letters .ensures)))

@@ -17,4 +17,4 @@ bearing-spec =
     (λ c κs. tt)
     (λ c κs. tt)
     (λ c κs. tt)
-    (λ c. rw (c .longer2 .ensures, c .before .longer .ensures, c .before .before .lit .ensures, c .before .before .before .before .digit .ensures, c .before .before .before .before .before .in-range2 .ensures, c .before .before .before .before .before .before .byte .ensures, c .before .before .before .before .before .before .before .run .ensures, c .before .before .before .before .before .before .before .before .in-range .ensures)))
+    (λ c. rw (c .longer2 .ensures, c .before .longer .ensures, c .before .before .lit .ensures, c .before .before .before .before .digit .ensures, c .before .before .before .before .before .in-range2 .ensures, c .before .before .before .before .before .before .byte .ensures, c .before .before .before .before .before .before .before .digits .ensures, c .before .before .before .before .before .before .before .before .in-range .ensures)))

@@ -10,4 +10,4 @@ bearing-from-spec =
     (λ c κs. tt)
     (λ c κs. tt)
     (λ c κs. tt)
-    (λ c. rw (c .run2 .ensures, c .before .bearing .ensures, c .before .before .run .ensures)))
+    (λ c. rw (c .digits .ensures, c .before .bearing .ensures, c .before .before .alnums .ensures)))

@@ -12,8 +12,8 @@ field10-spec =
     tie.close
     (tie.spec
     (λ c κs. tt)
-    (λ c κs. forth (run Alnum 1 40) _ _ _ (c .run .ensures))
+    (λ c κs. forth (run Alnum 1 40) _ _ _ (c .alnums .ensures))
     (λ c κs. tt)
     (λ c κs. tt)
-    (λ c κs. forth (run Alnum 1 20) _ _ _ (c .run2 .ensures))
-    (λ c. rw (c .between2 .ensures, c .before .run2 .ensures, c .before .before .byte .ensures, c .before .before .before .between .ensures, c .before .before .before .before .run .ensures)))
+    (λ c κs. forth (run Alnum 1 20) _ _ _ (c .alnums2 .ensures))
+    (λ c. rw (c .between2 .ensures, c .before .alnums2 .ensures, c .before .before .byte .ensures, c .before .before .before .between .ensures, c .before .before .before .before .alnums .ensures)))

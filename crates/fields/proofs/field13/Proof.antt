@@ -12,7 +12,7 @@ field13-spec =
     tie.close
     (tie.spec
     (λ c κs. tt)
-    (λ c κs. forth (run Letter 4 4) _ _ _ (c .run .ensures))
+    (λ c κs. forth (run Letter 4 4) _ _ _ (c .letters .ensures))
     (λ c κs. tt)
     (λ c κs. forth timed _ _ _ (c .time .ensures))
-    (λ c. rw (c .between2 .ensures, c .before .time .ensures, c .before .before .between .ensures, c .before .before .before .run .ensures)))
+    (λ c. rw (c .between2 .ensures, c .before .time .ensures, c .before .before .between .ensures, c .before .before .before .letters .ensures)))

@@ -12,10 +12,10 @@ field13o-spec =
     tie.close
     (tie.spec
     (λ c κs. tt)
-    (λ c κs. forth (run Letter 4 4) _ _ _ (c .run .ensures))
+    (λ c κs. forth (run Letter 4 4) _ _ _ (c .letters .ensures))
     (λ c κs. tt)
     (λ c κs. tt)
     (λ c κs. forth timed _ _ _ (c .before .time .ensures))
     (λ c κs. tt)
     (λ c κs. tt)
-    (λ c. rw (c .longer .ensures, c .before .either .ensures, c .before .before .between2 .ensures, c .before .before .before .none .ensures, c .before .before .before .before .time .ensures, c .before .before .before .before .before .between .ensures, c .before .before .before .before .before .before .run .ensures)))
+    (λ c. rw (c .longer .ensures, c .before .either .ensures, c .before .before .between2 .ensures, c .before .before .before .none .ensures, c .before .before .before .before .time .ensures, c .before .before .before .before .before .between .ensures, c .before .before .before .before .before .before .letters .ensures)))

@@ -13,9 +13,9 @@ field15-spec =
     (tie.spec
     (λ c κs. tt)
     (λ c κs. tt)
-    (λ c κs. (search needs, omega (arith, forth (run Digit 4 4) _ _ _ (c .run .ensures), forth (run (Of 75 78 78 78 78) 1 1) _ _ _ (c .before .one-of .ensures))))
+    (λ c κs. (search needs, omega (arith, forth (run Digit 4 4) _ _ _ (c .digits .ensures), forth (run (Of 75 78 78 78 78) 1 1) _ _ _ (c .before .one-of .ensures))))
     (λ c κs. tt)
     (λ c κs. tt)
-    (λ c κs. (search needs, omega (arith, forth (run Digit 3 3) _ _ _ (c .run2 .ensures), forth (run (Byte 77) 1 1) _ _ _ (c .before .byte .ensures))))
+    (λ c κs. (search needs, omega (arith, forth (run Digit 3 3) _ _ _ (c .digits2 .ensures), forth (run (Byte 77) 1 1) _ _ _ (c .before .byte .ensures))))
     (λ c κs. tt)
-    (λ c. rw (c .either15 .ensures, c .before .sped2 .ensures, c .before .before .run2 .ensures, c .before .before .before .byte .ensures, c .before .before .before .before .sped .ensures, c .before .before .before .before .before .run .ensures, c .before .before .before .before .before .before .one-of .ensures) (found15-is _ _)))
+    (λ c. rw (c .either15 .ensures, c .before .sped2 .ensures, c .before .before .digits2 .ensures, c .before .before .before .byte .ensures, c .before .before .before .before .sped .ensures, c .before .before .before .before .before .digits .ensures, c .before .before .before .before .before .before .one-of .ensures) (found15-is _ _)))

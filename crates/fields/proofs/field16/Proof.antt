@@ -13,12 +13,12 @@ field16-spec =
     tie.close
     (tie.spec
     (λ c κs. tt)
-    (λ c κs. forth (run Letter 4 4) _ _ _ (c .run .ensures))
+    (λ c κs. forth (run Letter 4 4) _ _ _ (c .letters .ensures))
     (λ c κs. tt)
     (λ c κs. tt)
     (λ c κs. tt)
-    (λ c κs. omega (arith, forth minute _ _ _ (c .before .minute .ensures), forth (run Digit 2 2) _ _ _ (c .before .before .run2 .ensures)))
+    (λ c κs. omega (arith, forth minute _ _ _ (c .before .minute .ensures), forth (run Digit 2 2) _ _ _ (c .before .before .digits .ensures)))
     (λ c κs. tt)
     (λ c κs. tt)
     (λ c κs. tt)
-    (λ c. rw (c .before .before .before .alternates .ensures, c .before .before .before .before .longer .ensures, c .before .before .before .before .before .either .ensures, c .before .before .before .before .before .before .between2 .ensures, c .before .before .before .before .before .before .before .none .ensures, c .before .before .before .before .before .before .before .before .minute .ensures, c .before .before .before .before .before .before .before .before .before .run2 .ensures, c .before .before .before .before .before .before .before .before .before .before .between .ensures, c .before .before .before .before .before .before .before .before .before .before .before .run .ensures)))
+    (λ c. rw (c .before .before .before .alternates .ensures, c .before .before .before .before .longer .ensures, c .before .before .before .before .before .either .ensures, c .before .before .before .before .before .before .between2 .ensures, c .before .before .before .before .before .before .before .none .ensures, c .before .before .before .before .before .before .before .before .minute .ensures, c .before .before .before .before .before .before .before .before .before .digits .ensures, c .before .before .before .before .before .before .before .before .before .before .between .ensures, c .before .before .before .before .before .before .before .before .before .before .before .letters .ensures)))

@@ -9,4 +9,4 @@ level4-spec =
     (tie.spec
     (λ c κs. tt)
     (λ c κs. tt)
-    (λ c. rw (c .run .ensures, c .before .one-of .ensures)))
+    (λ c. rw (c .digits .ensures, c .before .one-of .ensures)))

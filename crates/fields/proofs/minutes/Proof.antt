@@ -27,4 +27,4 @@ minutes-spec =
     (λ c κs. tt)
     (λ c κs. tt)
     (λ c κs. tt)
-    (λ c. rw (c .one-of2 .ensures, c .before .longer3 .ensures, c .before .before .longer2 .ensures, c .before .before .before .lit2 .ensures, c .before .before .before .before .before .minute3 .ensures, c .before .before .before .before .before .before .digit2 .ensures, c .before .before .before .before .before .before .before .in-range2 .ensures, c .before .before .before .before .before .before .before .before .byte2 .ensures, c .before .before .before .before .before .before .before .before .before .minute2 .ensures, c .before .before .before .before .before .before .before .before .before .before .run .ensures, c .before .before .before .before .before .before .before .before .before .before .before .byte .ensures, c .before .before .before .before .before .before .before .before .before .before .before .before .one-of .ensures, c .before .before .before .before .before .before .before .before .before .before .before .before .before .longer .ensures, c .before .before .before .before .before .before .before .before .before .before .before .before .before .before .lit .ensures, c .before .before .before .before .before .before .before .before .before .before .before .before .before .before .before .before .minute .ensures, c .before .before .before .before .before .before .before .before .before .before .before .before .before .before .before .before .before .digit .ensures, c .before .before .before .before .before .before .before .before .before .before .before .before .before .before .before .before .before .before .in-range .ensures)))
+    (λ c. rw (c .one-of2 .ensures, c .before .longer3 .ensures, c .before .before .longer2 .ensures, c .before .before .before .lit2 .ensures, c .before .before .before .before .before .minute3 .ensures, c .before .before .before .before .before .before .digit2 .ensures, c .before .before .before .before .before .before .before .in-range2 .ensures, c .before .before .before .before .before .before .before .before .byte2 .ensures, c .before .before .before .before .before .before .before .before .before .minute2 .ensures, c .before .before .before .before .before .before .before .before .before .before .digits .ensures, c .before .before .before .before .before .before .before .before .before .before .before .byte .ensures, c .before .before .before .before .before .before .before .before .before .before .before .before .one-of .ensures, c .before .before .before .before .before .before .before .before .before .before .before .before .before .longer .ensures, c .before .before .before .before .before .before .before .before .before .before .before .before .before .before .lit .ensures, c .before .before .before .before .before .before .before .before .before .before .before .before .before .before .before .before .minute .ensures, c .before .before .before .before .before .before .before .before .before .before .before .before .before .before .before .before .before .digit .ensures, c .before .before .before .before .before .before .before .before .before .before .before .before .before .before .before .before .before .before .in-range .ensures)))

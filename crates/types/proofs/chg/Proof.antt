@@ -22,11 +22,11 @@ returns c =
     let s = c .before .before .before .before .before .before .before .before .before .before .before .before .before .before .before .before .before .before .before .before .before .before .before .before .before .before .before .before .args .s .now in
     let p0 = c .before .before .before .before .before .before .before .before .before .before .before .before .before .before .before .before .before .before .before .before .before .before .before .before .before .before .referring .ensures in
     let p1 = c .before .before .before .before .before .before .before .before .before .before .before .before .before .before .before .before .before .before .before .before .before .before .byte .ensures ∙ ap {B = Scan} (λ (x : Heading). scan (byte 45) s (x .end)) p0 in
-    let p2 = c .before .before .before .before .before .before .before .before .before .before .before .before .before .before .before .before .before .before .before .before .before .run .ensures ∙ ap {B = Scan} (λ (x : Scan). scan (run Alnum 2 7) s x) p1 in
+    let p2 = c .before .before .before .before .before .before .before .before .before .before .before .before .before .before .before .before .before .before .before .before .before .alnums .ensures ∙ ap {B = Scan} (λ (x : Scan). scan (run Alnum 2 7) s x) p1 in
     let p3 = c .before .before .before .before .before .before .before .before .before .before .before .before .before .before .before .before .before .before .before .before .byte2 .ensures ∙ ap {B = Scan} (λ (x : Scan). scan (byte 45) s x) p2 in
     let p4 = c .before .before .before .before .before .before .before .before .before .before .before .before .before .before .before .before .before .before .before .field13o .ensures ∙ ap {B = Found13} (λ (x : Scan). found13o s x) p3 in
     let p5 = c .before .before .before .before .before .before .before .before .before .before .before .before .before .before .before .before .before .byte3 .ensures ∙ ap {B = Scan} (λ (x : Found13). scan (byte 45) s (x .end)) p4 in
-    let p6 = c .before .before .before .before .before .before .before .before .before .before .before .before .before .before .before .before .run2 .ensures ∙ ap {B = Scan} (λ (x : Scan). scan (run Letter 4 4) s x) p5 in
+    let p6 = c .before .before .before .before .before .before .before .before .before .before .before .before .before .before .before .before .letters .ensures ∙ ap {B = Scan} (λ (x : Scan). scan (run Letter 4 4) s x) p5 in
     let p7 = c .before .before .before .before .before .before .before .before .before .before .before .before .before .before .before .byte4 .ensures ∙ ap {B = Scan} (λ (x : Scan). scan (byte 45) s x) p6 in
     let p8 = c .before .before .before .before .before .before .before .before .before .before .before .before .before .before .changed .ensures ∙ ap {B = FoundTail} (λ (x : Scan). foundTail changed s x) p7 in
     let p9 = c .before .before .before .before .before .before .before .before .before .before .before .before .byte5 .ensures ∙ ap {B = Scan} (λ (x : FoundTail). scan (byte 41) s (x .end)) p8 in
@@ -82,8 +82,8 @@ chg-spec =
     (λ c κs. tt)
     (λ c κs. tt)
     (λ c κs. tt)
-    (λ c κs. forth (run Alnum 2 7) _ _ _ (c .before .before .before .before .before .before .before .before .before .before .run .ensures))
-    (λ c κs. forth (run Letter 4 4) _ _ _ (c .before .before .before .before .before .before .before .before .run2 .ensures))
+    (λ c κs. forth (run Alnum 2 7) _ _ _ (c .before .before .before .before .before .before .before .before .before .before .alnums .ensures))
+    (λ c κs. forth (run Letter 4 4) _ _ _ (c .before .before .before .before .before .before .before .before .letters .ensures))
     (λ c κs. tt)
     (λ c κs. tt)
     (λ c κs. tt)

@@ -24,13 +24,13 @@ returns c =
     let p1 = c .before .before .before .before .before .before .before .before .before .before .before .before .before .before .before .before .before .before .before .before .before .before .before .before .before .before .before .before .before .before .before .before .before .byte .ensures ∙ ap {B = Scan} (λ (x : Heading). scan (byte 45) s (x .end)) p0 in
     let p2 = c .before .before .before .before .before .before .before .before .before .before .before .before .before .before .before .before .before .before .before .before .before .before .before .before .before .before .before .before .before .before .before .before .front .ensures ∙ ap {B = Leading} (λ (x : Scan). frontOf s x) p1 in
     let p3 = c .before .before .before .before .before .before .before .before .before .before .before .before .before .before .before .before .before .before .before .before .before .before .before .before .before .before .before .before .before .byte2 .ensures ∙ ap {B = Scan} (λ (x : Leading). scan (byte 45) s (x .end)) p2 in
-    let p4 = c .before .before .before .before .before .before .before .before .before .before .before .before .before .before .before .before .before .before .before .before .before .before .before .before .before .before .before .before .run .ensures ∙ ap {B = Scan} (λ (x : Scan). scan (run Letter 4 4) s x) p3 in
+    let p4 = c .before .before .before .before .before .before .before .before .before .before .before .before .before .before .before .before .before .before .before .before .before .before .before .before .before .before .before .before .letters .ensures ∙ ap {B = Scan} (λ (x : Scan). scan (run Letter 4 4) s x) p3 in
     let p5 = c .before .before .before .before .before .before .before .before .before .before .before .before .before .before .before .before .before .before .before .before .before .before .before .before .before .before .before .byte3 .ensures ∙ ap {B = Scan} (λ (x : Scan). scan (byte 45) s x) p4 in
     let p6 = c .before .before .before .before .before .before .before .before .before .before .before .before .before .before .before .before .before .before .before .before .before .before .before .before .before .before .field14 .ensures ∙ ap {B = Found14} (λ (x : Scan). found14 s x) p5 in
     let p7 = c .before .before .before .before .before .before .before .before .before .before .before .before .before .before .before .before .before .before .before .before .before .before .before .before .byte4 .ensures ∙ ap {B = Scan} (λ (x : Found14). scan (byte 45) s (x .end)) p6 in
     let p8 = c .before .before .before .before .before .before .before .before .before .before .before .before .before .before .before .before .before .before .before .before .before .before .before .field15 .ensures ∙ ap {B = Found15} (λ (x : Scan). found15 0 s x) p7 in
     let p9 = c .before .before .before .before .before .before .before .before .before .before .before .before .before .before .before .before .before .before .before .before .before .byte5 .ensures ∙ ap {B = Scan} (λ (x : Found15). scan (byte 45) s (x .end)) p8 in
-    let p10 = c .before .before .before .before .before .before .before .before .before .before .before .before .before .before .before .before .before .before .before .before .run2 .ensures ∙ ap {B = Scan} (λ (x : Scan). scan (run Letter 4 4) s x) p9 in
+    let p10 = c .before .before .before .before .before .before .before .before .before .before .before .before .before .before .before .before .before .before .before .before .letters2 .ensures ∙ ap {B = Scan} (λ (x : Scan). scan (run Letter 4 4) s x) p9 in
     let p11 = c .before .before .before .before .before .before .before .before .before .before .before .before .before .before .before .before .before .before .before .byte6 .ensures ∙ ap {B = Scan} (λ (x : Scan). scan (byte 45) s x) p10 in
     let p12 = c .before .before .before .before .before .before .before .before .before .before .before .before .before .before .before .before .before .before .field18 .ensures ∙ ap {B = Found18} (λ (x : Scan). found18 0 s x) p11 in
     let p13 = c .before .before .before .before .before .before .before .before .before .before .before .before .before .before .before .before .byte7 .ensures ∙ ap {B = Scan} (λ (x : Found18). scan (byte 41) s (x .end)) p12 in
@@ -89,8 +89,8 @@ cpl-spec =
     (λ c κs. tt)
     (λ c κs. tt)
     (λ c κs. tt)
-    (λ c κs. forth (run Letter 4 4) _ _ _ (c .before .before .before .before .before .before .before .before .before .before .before .before .run .ensures))
-    (λ c κs. forth (run Letter 4 4) _ _ _ (c .before .before .before .before .before .run2 .ensures))
+    (λ c κs. forth (run Letter 4 4) _ _ _ (c .before .before .before .before .before .before .before .before .before .before .before .before .letters .ensures))
+    (λ c κs. forth (run Letter 4 4) _ _ _ (c .before .before .before .before .before .letters2 .ensures))
     (λ c κs. tt)
     (λ c κs. tt)
     (λ c κs. tt)

@@ -22,11 +22,11 @@ returns c =
     let p1 = c .before .before .before .before .before .before .before .before .before .before .before .before .before .before .before .before .before .before .before .before .before .before .before .before .byte .ensures ∙ ap {B = Scan} (λ (x : Heading). scan (byte 45) s (x .end)) p0 in
     let p2 = c .before .before .before .before .before .before .before .before .before .before .before .before .before .before .before .before .before .before .before .before .before .before .before .field07 .ensures ∙ ap {B = Found07} (λ (x : Scan). found07 0 s x) p1 in
     let p3 = c .before .before .before .before .before .before .before .before .before .before .before .before .before .before .before .before .before .before .before .before .before .byte2 .ensures ∙ ap {B = Scan} (λ (x : Found07). scan (byte 45) s (x .end)) p2 in
-    let p4 = c .before .before .before .before .before .before .before .before .before .before .before .before .before .before .before .before .before .before .before .before .run .ensures ∙ ap {B = Scan} (λ (x : Scan). scan (run Letter 4 4) s x) p3 in
+    let p4 = c .before .before .before .before .before .before .before .before .before .before .before .before .before .before .before .before .before .before .before .before .letters .ensures ∙ ap {B = Scan} (λ (x : Scan). scan (run Letter 4 4) s x) p3 in
     let p5 = c .before .before .before .before .before .before .before .before .before .before .before .before .before .before .before .before .before .before .before .byte3 .ensures ∙ ap {B = Scan} (λ (x : Scan). scan (byte 45) s x) p4 in
     let p6 = c .before .before .before .before .before .before .before .before .before .before .before .before .before .before .before .before .before .before .field14 .ensures ∙ ap {B = Found14} (λ (x : Scan). found14 s x) p5 in
     let p7 = c .before .before .before .before .before .before .before .before .before .before .before .before .before .before .before .before .byte4 .ensures ∙ ap {B = Scan} (λ (x : Found14). scan (byte 45) s (x .end)) p6 in
-    let p8 = c .before .before .before .before .before .before .before .before .before .before .before .before .before .before .before .run2 .ensures ∙ ap {B = Scan} (λ (x : Scan). scan (run Letter 4 4) s x) p7 in
+    let p8 = c .before .before .before .before .before .before .before .before .before .before .before .before .before .before .before .letters2 .ensures ∙ ap {B = Scan} (λ (x : Scan). scan (run Letter 4 4) s x) p7 in
     let p9 = c .before .before .before .before .before .before .before .before .before .before .before .before .before .before .byte5 .ensures ∙ ap {B = Scan} (λ (x : Scan). scan (byte 41) s x) p8 in
     let q0 = c .before .before .before .before .before .before .before .before .before .before .before .before .between .ensures ∙ (λ i. between16 (p3 i) (p4 i)) in
     let q1 = c .before .before .before .before .before .before .before .before .before .before .before .between2 .ensures ∙ (λ i. between16 (p7 i) (p8 i)) in
@@ -80,8 +80,8 @@ est-spec =
     (λ c κs. tt)
     (λ c κs. tt)
     (λ c κs. tt)
-    (λ c κs. forth (run Letter 4 4) _ _ _ (c .before .before .before .before .before .before .before .run .ensures))
-    (λ c κs. forth (run Letter 4 4) _ _ _ (c .before .before .before .run2 .ensures))
+    (λ c κs. forth (run Letter 4 4) _ _ _ (c .before .before .before .before .before .before .before .letters .ensures))
+    (λ c κs. forth (run Letter 4 4) _ _ _ (c .before .before .before .letters2 .ensures))
     (λ c κs. tt)
     (λ c κs. tt)
     (λ c κs. tt)

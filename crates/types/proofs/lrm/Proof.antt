@@ -20,7 +20,7 @@ returns c =
     let p0 = c .before .before .before .before .before .before .before .before .before .before .before .before .before .before .referring .ensures in
     let p1 = c .before .before .before .before .before .before .before .before .before .before .byte .ensures ∙ ap {B = Scan} (λ (x : Heading). scan (byte 45) s (x .end)) p0 in
     let p2 = c .before .before .before .before .before .before .before .before .lit .ensures ∙ ap {B = Scan} (λ (x : Scan). scan (lit (82 ∷ 77 ∷ 75 ∷ 47 ∷ [])) s x) p1 in
-    let p3 = c .before .before .before .before .before .before .before .run .ensures ∙ ap {B = Scan} (λ (x : Scan). scan (run Digit 2 2) s x) p2 in
+    let p3 = c .before .before .before .before .before .before .before .digits .ensures ∙ ap {B = Scan} (λ (x : Scan). scan (run Digit 2 2) s x) p2 in
     let p4 = c .before .before .before .before .before .before .byte2 .ensures ∙ ap {B = Scan} (λ (x : Scan). scan (byte 41) s x) p3 in
     let q0 = c .before .before .before .before .before .between .ensures ∙ (λ i. between16 (p2 i) (p3 i)) in
     λ i. record {
@@ -47,7 +47,7 @@ lrm-spec =
     (λ c κs. tt)
     (λ c κs. tt)
     (λ c κs. tt)
-    (λ c κs. forth (run Digit 2 2) _ _ _ (c .before .run .ensures))
+    (λ c κs. forth (run Digit 2 2) _ _ _ (c .before .digits .ensures))
     (λ c κs. tt)
     (λ c κs. tt)
     (λ c κs. tt)

@@ -17,11 +17,11 @@ returns c =
     let s = c .before .before .before .before .before .before .before .before .before .before .before .before .before .before .before .before .before .before .before .before .before .before .before .args .s .now in
     let p0 = c .before .before .before .before .before .before .before .before .before .before .before .before .before .before .before .before .before .before .before .before .before .referring .ensures in
     let p1 = c .before .before .before .before .before .before .before .before .before .before .before .before .before .before .before .before .before .byte .ensures ∙ ap {B = Scan} (λ (x : Heading). scan (byte 45) s (x .end)) p0 in
-    let p2 = c .before .before .before .before .before .before .before .before .before .before .before .before .before .before .before .before .run .ensures ∙ ap {B = Scan} (λ (x : Scan). scan (run Alnum 2 7) s x) p1 in
+    let p2 = c .before .before .before .before .before .before .before .before .before .before .before .before .before .before .before .before .alnums .ensures ∙ ap {B = Scan} (λ (x : Scan). scan (run Alnum 2 7) s x) p1 in
     let p3 = c .before .before .before .before .before .before .before .before .before .before .before .before .before .before .before .byte2 .ensures ∙ ap {B = Scan} (λ (x : Scan). scan (byte 45) s x) p2 in
-    let p4 = c .before .before .before .before .before .before .before .before .before .before .before .before .before .before .run2 .ensures ∙ ap {B = Scan} (λ (x : Scan). scan (run Letter 4 4) s x) p3 in
+    let p4 = c .before .before .before .before .before .before .before .before .before .before .before .before .before .before .letters .ensures ∙ ap {B = Scan} (λ (x : Scan). scan (run Letter 4 4) s x) p3 in
     let p5 = c .before .before .before .before .before .before .before .before .before .before .before .before .before .byte3 .ensures ∙ ap {B = Scan} (λ (x : Scan). scan (byte 45) s x) p4 in
-    let p6 = c .before .before .before .before .before .before .before .before .before .before .before .before .run3 .ensures ∙ ap {B = Scan} (λ (x : Scan). scan (run Letter 4 4) s x) p5 in
+    let p6 = c .before .before .before .before .before .before .before .before .before .before .before .before .letters2 .ensures ∙ ap {B = Scan} (λ (x : Scan). scan (run Letter 4 4) s x) p5 in
     let p7 = c .before .before .before .before .before .before .before .before .before .before .before .byte4 .ensures ∙ ap {B = Scan} (λ (x : Scan). scan (byte 45) s x) p6 in
     let p8 = c .before .before .before .before .before .before .before .before .before .before .words .ensures ∙ ap {B = Scan} (λ (x : Scan). scan (words 20) s x) p7 in
     let p9 = c .before .before .before .before .before .before .before .before .before .byte5 .ensures ∙ ap {B = Scan} (λ (x : Scan). scan (byte 41) s x) p8 in
@@ -79,9 +79,9 @@ rta-spec =
     (λ c κs. tt)
     (λ c κs. tt)
     (λ c κs. tt)
-    (λ c κs. forth (run Alnum 2 7) _ _ _ (c .before .before .before .before .before .before .before .before .run .ensures))
-    (λ c κs. forth (run Letter 4 4) _ _ _ (c .before .before .before .before .before .before .before .run2 .ensures))
-    (λ c κs. forth (run Letter 4 4) _ _ _ (c .before .before .before .before .before .before .run3 .ensures))
+    (λ c κs. forth (run Alnum 2 7) _ _ _ (c .before .before .before .before .before .before .before .before .alnums .ensures))
+    (λ c κs. forth (run Letter 4 4) _ _ _ (c .before .before .before .before .before .before .before .letters .ensures))
+    (λ c κs. forth (run Letter 4 4) _ _ _ (c .before .before .before .before .before .before .letters2 .ensures))
     (λ c κs. forth (words 20) _ _ _ (c .before .before .before .before .before .words .ensures))
     (λ c κs. tt)
     (λ c κs. tt)
