@@ -1,14 +1,20 @@
 -- One field 22 and what may follow it.
 use mathlib.Core.Path.{_≡_, refl, sym, ap, _∙_}
-use mathlib.Core.Bool.{cond}
+use mathlib.Core.Bool.{true, false, cond}
 use mathlib.Core.List.{List, [], _∷_}
-use Prim.Native.Nat.{ℕ}
+use Prim.Native.Nat.{ℕ, _+_, _≤_, _<_}
+use native.Mathlib.Omega.{arith}
+use lib.ListN.{length}
 use lib.Dec.{eqb}
 use Rattle.scan.specs.declared.Scan.{Scan}
 use Rattle.scan.specs.declared.Span.{Span}
 use Rattle.scan.specs.Grammar.{G, alt, none}
 use Rattle.scan.specs.Texts.{_⨾_, byte, opt, lit}
-use Rattle.scan.specs.Scanner.{scan, among, occurs, spanBy}
+use Rattle.scan.specs.Scanner.{scan, among, occurs, spanBy, spot}
+use Rattle.scan.specs.Tests.{good}
+use Rattle.scan.specs.Theory.{skip, ok-before}
+use Rattle.scan.specs.Bounds.{spot-stays}
+use Rattle.scan.specs.Picks.{sunder, it, in-seq, ahead, chosen, given-up, lit-passed, so}
 use Rattle.fields.specs.Names as n
 use Rattle.fields.specs.declared.Found07.{Found07}
 use Rattle.fields.specs.declared.Found08.{Found08}
@@ -24,7 +30,7 @@ use Rattle.changes.specs.declared.Plan.{Plan}
 use Rattle.changes.specs.declared.Found22.{Found22}
 use Rattle.changes.specs.declared.FoundTail.{FoundTail}
 use Rattle.changes.specs.Changes.{from08, inChanges, changes, inChanged, changed}
-use Rattle.changes.specs.Found.{planOf, noPlan, found22, eitherFound22, nothing22, found22-alt, found22-opt, foundTail, eitherFoundTail, foundTail-alt}
+use Rattle.changes.specs.Found.{planOf, noPlan, found22, nothing22, found22-same, foundTail, eitherFoundTail, foundTail-alt}
 
 -- the part k of a plan
 abbrev partOf : ℕ → Plan → Span
@@ -80,12 +86,40 @@ with16 f t = record { end = t .end; plan = put n.alternate2 (f .alternate2) (put
 abbrev pub Adds : List ℕ → G → List ℕ → Scan → (Found22 → Found22) → Type 0
 Adds key g s r f = (t : G) → f (found22 t s (scan g s (scan (lit key) s r))) ≡ found22 (lit key ⨾ g ⨾ t) s r
 
--- key, field and what follows, or another field: the law of every number but the first and the last
-pub ascend : (key : List ℕ) (g next : G) (s : List ℕ) (r : Scan) (f : Found22 → Found22) → Adds key g s r f → (e b : Scan) (none u t o q : Found22) → e ≡ scan g s (scan (lit key) s r) → b ≡ scan (byte 45) s e → none ≡ nothing22 e → u ≡ found22 next s b → t ≡ eitherFound22 none u → o ≡ found22 next s r → q ≡ eitherFound22 (f t) o → q ≡ found22 (alt (lit key ⨾ g ⨾ opt (byte 45 ⨾ next)) next) s r
-ascend key g next s r f adds e b none u t o q pe pb pn pu pt po pq =
-    let w : t ≡ found22 (opt (byte 45 ⨾ next)) s e = pt ∙ rw (pn, pu, pb) (found22-opt next s e) in
-    let v : f t ≡ found22 (lit key ⨾ g ⨾ opt (byte 45 ⨾ next)) s r = rw (w, pe) (adds (opt (byte 45 ⨾ next))) in
-    pq ∙ rw (v, po) (found22-alt (lit key ⨾ g ⨾ opt (byte 45 ⨾ next)) next s r)
+-- a field and what follows it
+pub ascend : (key : List ℕ) (g t : G) (s : List ℕ) (r : Scan) (f : Found22 → Found22) → Adds key g s r f → (e : Scan) (u : Found22) → e ≡ scan g s (scan (lit key) s r) → u ≡ found22 t s e → f u ≡ found22 (lit key ⨾ g ⨾ t) s r
+ascend key g t s r f adds e u pe pu = rw (pu, pe) (adds t)
+
+lit-names : (n : ℕ) (key : List ℕ) → occurs n (lit key) ≡ false
+unfolding occurs
+lit-names n [] = refl
+lit-names n (b ∷ key) = lit-names n key
+
+-- A NUMBER, OR A LATER ONE: the law of every number but the last
+module _ (key : List ℕ) (x next : G) (s : List ℕ) (r a : Scan) (pa : a ≡ scan (lit key) s r) where
+  -- the number is there, so no other can be
+  pub number-there : good (lit key ⨾ x) ≡ true → good next ≡ true → sunder 2 (lit key ⨾ x) next ≡ true → length key ≡ 3 → a .ok ≡ true → found22 (lit key ⨾ x) s r ≡ found22 (alt (lit key ⨾ x) next) s r
+  number-there ga gb e l o =
+      let p = so a (scan (lit key) s r) true pa o in
+      let b = ok-before (lit key) s r (scan (lit key) s r) refl p in
+      found22-same (alt (lit key ⨾ x) next) (lit key ⨾ x) s r (chosen 2 (lit key) (lit key ⨾ x) next (in-seq it) ga gb e (omega arith) s r (omega (arith, lit-passed key s r p b, l)))
+
+  -- it is not, and a later one has gone as far
+  pub number-past : a .ok ≡ false → (o : Found22) → o ≡ found22 next s r → a .next ≤ o .end .next → o ≡ found22 (alt (lit key ⨾ x) next) s r
+  unfolding found22
+  number-past e o po h =
+      po ∙ found22-same (alt (lit key ⨾ x) next) next s r (given-up (lit key) (lit key ⨾ x) next (in-seq it) s r (so a (scan (lit key) s r) false pa e) (omega (arith, ap (λ (q : Scan). q .next) pa, ap (λ (q : Found22). q .end .next) po)))
+
+  -- it is not, and no later one has
+  pub number-stop : a .ok ≡ false → (o q : Found22) → o ≡ found22 next s r → o .end .next < a .next → q ≡ nothing22 a → q ≡ found22 (alt (lit key ⨾ x) next) s r
+  unfolding found22 nothing22 spanBy
+  number-stop e o q po h pq =
+      let k : Scan = scan (lit key) s r in
+      let f = so a k false pa e in
+      let z = skip x s k f in
+      let none-there : (m : ℕ) → spot m (lit key ⨾ x) s r ≡ none = λ m. rw (lit-names m key) (spot-stays m x s k f) in
+      pq ∙ ap nothing22 pa ∙ sym (λ i. record { end = z i; plan = planOf (λ m. none-there (n.amended + m) i) })
+      ∙ found22-same (alt (lit key ⨾ x) next) (lit key ⨾ x) s r (ahead (lit key ⨾ x) next s r (omega (arith, ap (λ (v : Scan). v .next) pa, ap (λ (v : Scan). v .next) z, ap (λ (v : Found22). v .end .next) po)))
 
 abbrev pub key07 : List ℕ
 key07 = 48 ∷ 55 ∷ 47 ∷ []
@@ -164,17 +198,16 @@ pub alone07 : (s : List ℕ) (r : Scan) (f : Found07) → f ≡ found07 n.amende
 unfolding found22 nothing22 among occurs spanBy
 alone07 s r f h = ap {B = Found22} (λ (x : Found07). with07 x (nothing22 (x .end))) h
 
-named22 : (s : List ℕ) (r : Scan) → found22 inChanges s r ≡ found22 changes s r
+pub named22 : (s : List ℕ) (r : Scan) → found22 inChanges s r ≡ found22 changes s r
 unfolding found22 among spanBy
 named22 s r = refl
 
-pub found-changes : (s : List ℕ) (r a : Scan) (f : Found07) (p : Plan) (o q : Found22) → a ≡ scan (lit key07) s r → f ≡ found07 0 s a → p ≡ noPlan → o ≡ found22 from08 s r → q ≡ eitherFound22 (record { end = f .end; plan = put n.code (f .code) (put n.aircraft (f .aircraft) p) }) o → q ≡ found22 changes s r
-unfolding nothing22 inChanges
-found-changes s r a f p o q pa pf pp po pq =
-    pq ∙ rw (po, pp)
-    (ap {B = Found22} (λ (x : Found22). eitherFound22 x (found22 from08 s r)) (alone07 s r f (is07 s r a f pa pf)) ∙ found22-alt (lit key07 ⨾ g07 n.amended) from08 s r ∙ named22 s r)
+-- 07 and its parts
+pub with-07 : (s : List ℕ) (r a : Scan) (f : Found07) (p : Plan) → a ≡ scan (lit key07) s r → f ≡ found07 0 s a → p ≡ noPlan → record { end = f .end; plan = put n.code (f .code) (put n.aircraft (f .aircraft) p) } ≡ found22 (lit key07 ⨾ g07 n.amended) s r
+unfolding nothing22
+with-07 s r a f p pa pf pp = rw pp (alone07 s r f (is07 s r a f pa pf))
 
-named-tail : (s : List ℕ) (r : Scan) → foundTail inChanged s r ≡ foundTail changed s r
+pub named-tail : (s : List ℕ) (r : Scan) → foundTail inChanged s r ≡ foundTail changed s r
 unfolding foundTail among spanBy
 named-tail s r = refl
 

@@ -1,8 +1,9 @@
 // What may stand in a CHG after field 16: its own field 18 or none, then one or more fields 22 in ascending order.
 ghost use mathlib.Core.Path.{_≡_};
+ghost use Rattle.scan.specs.Texts.{_⨾_, byte, opt};
 ghost use Rattle.fields.specs.Fields.{nothing18, three18, four18, _─_};
 ghost use Rattle.changes.specs.Changes.{from18 as from18G, from16 as from16G, from15 as from15G, from13 as from13G, from10 as from10G, from09 as from09G, from08 as from08G, changes as changesG, changed as changedG};
-ghost use Rattle.changes.specs.Found.{noPlan, found22, eitherFound22, nothing22, foundTail, eitherFoundTail};
+ghost use Rattle.changes.specs.Found.{noPlan, found22, nothing22, foundTail, eitherFoundTail};
 use scan::Scan;
 use scan::Span;
 
@@ -81,20 +82,8 @@ fn nothing(r: Scan) -> Found22
     }
 }
 
-// Of two ways to go on the one that leads.
-fn either22(a: Found22, b: Found22) -> Found22
-    ensures { λ q. ⌜ q ≡ eitherFound22 a b ⌝ }
-{
-    let x = a.end;
-    let y = b.end;
-    let end = scan::longer(x, y);
-    if scan::leads(x, y) {
-        let plan = a.plan;
-        return Found22 { end, plan };
-    }
-    let plan = b.plan;
-    Found22 { end, plan }
-}
+// The numbers differ in their two digits: once a number is there, no other field 22 can be, and where it is not, the
+// scan of the later numbers is taken unless it is behind.
 
 // Fields 22 from number 18 on.
 fn from18(s: &[u8], r: Scan) -> Found22
@@ -112,18 +101,33 @@ fn from18(s: &[u8], r: Scan) -> Found22
     Found22 { end, plan }
 }
 
+// What may follow a field 22 of number 16.
+fn after16(s: &[u8], r: Scan) -> Found22
+    ensures { λ q. ⌜ q ≡ found22 (opt (byte 45 ⨾ from18G)) (now (s .entry)) r ⌝ }
+{
+    let b = scan::byte(s, r, b'-');
+    if b.ok {
+        return from18(s, b);
+    }
+    nothing(r)
+}
+
 // Fields 22 from number 16 on.
 fn from16(s: &[u8], r: Scan) -> Found22
     ensures { λ q. ⌜ q ≡ found22 from16G (now (s .entry)) r ⌝ }
 {
-    if !r.ok {
-        return nothing(r);
-    }
     let a = scan::lit(s, r, b"16/");
+    if !a.ok {
+        let o = from18(s, r);
+        let e = o.end;
+        if a.next <= e.next {
+            return o;
+        }
+        return nothing(a);
+    }
     let f = fields::field16(s, a);
     let e = f.end;
-    let b = scan::byte(s, e, b'-');
-    let t = either22(nothing(e), from18(s, b));
+    let t = after16(s, e);
     let end = t.end;
     let mut plan = t.plan;
     let destination = f.destination;
@@ -134,21 +138,36 @@ fn from16(s: &[u8], r: Scan) -> Found22
     plan.alternate = alternate;
     let alternate2 = f.alternate2;
     plan.alternate2 = alternate2;
-    either22(Found22 { end, plan }, from18(s, r))
+    Found22 { end, plan }
+}
+
+// What may follow a field 22 of number 15.
+fn after15(s: &[u8], r: Scan) -> Found22
+    ensures { λ q. ⌜ q ≡ found22 (opt (byte 45 ⨾ from16G)) (now (s .entry)) r ⌝ }
+{
+    let b = scan::byte(s, r, b'-');
+    if b.ok {
+        return from16(s, b);
+    }
+    nothing(r)
 }
 
 // Fields 22 from number 15 on.
 fn from15(s: &[u8], r: Scan) -> Found22
     ensures { λ q. ⌜ q ≡ found22 from15G (now (s .entry)) r ⌝ }
 {
-    if !r.ok {
-        return nothing(r);
-    }
     let a = scan::lit(s, r, b"15/");
+    if !a.ok {
+        let o = from16(s, r);
+        let e = o.end;
+        if a.next <= e.next {
+            return o;
+        }
+        return nothing(a);
+    }
     let f = fields::field15(s, a);
     let e = f.end;
-    let b = scan::byte(s, e, b'-');
-    let t = either22(nothing(e), from16(s, b));
+    let t = after15(s, e);
     let end = t.end;
     let mut plan = t.plan;
     let speed = f.speed;
@@ -157,63 +176,108 @@ fn from15(s: &[u8], r: Scan) -> Found22
     plan.level = level;
     let route = f.route;
     plan.route = route;
-    either22(Found22 { end, plan }, from16(s, r))
+    Found22 { end, plan }
+}
+
+// What may follow a field 22 of number 13.
+fn after13(s: &[u8], r: Scan) -> Found22
+    ensures { λ q. ⌜ q ≡ found22 (opt (byte 45 ⨾ from15G)) (now (s .entry)) r ⌝ }
+{
+    let b = scan::byte(s, r, b'-');
+    if b.ok {
+        return from15(s, b);
+    }
+    nothing(r)
 }
 
 // Fields 22 from number 13 on.
 fn from13(s: &[u8], r: Scan) -> Found22
     ensures { λ q. ⌜ q ≡ found22 from13G (now (s .entry)) r ⌝ }
 {
-    if !r.ok {
-        return nothing(r);
-    }
     let a = scan::lit(s, r, b"13/");
+    if !a.ok {
+        let o = from15(s, r);
+        let e = o.end;
+        if a.next <= e.next {
+            return o;
+        }
+        return nothing(a);
+    }
     let f = fields::field13(s, a);
     let e = f.end;
-    let b = scan::byte(s, e, b'-');
-    let t = either22(nothing(e), from15(s, b));
+    let t = after13(s, e);
     let end = t.end;
     let mut plan = t.plan;
     let departure = f.departure;
     plan.departure = departure;
     let time = f.time;
     plan.time = time;
-    either22(Found22 { end, plan }, from15(s, r))
+    Found22 { end, plan }
+}
+
+// What may follow a field 22 of number 10.
+fn after10(s: &[u8], r: Scan) -> Found22
+    ensures { λ q. ⌜ q ≡ found22 (opt (byte 45 ⨾ from13G)) (now (s .entry)) r ⌝ }
+{
+    let b = scan::byte(s, r, b'-');
+    if b.ok {
+        return from13(s, b);
+    }
+    nothing(r)
 }
 
 // Fields 22 from number 10 on.
 fn from10(s: &[u8], r: Scan) -> Found22
     ensures { λ q. ⌜ q ≡ found22 from10G (now (s .entry)) r ⌝ }
 {
-    if !r.ok {
-        return nothing(r);
-    }
     let a = scan::lit(s, r, b"10/");
+    if !a.ok {
+        let o = from13(s, r);
+        let e = o.end;
+        if a.next <= e.next {
+            return o;
+        }
+        return nothing(a);
+    }
     let f = fields::field10(s, a);
     let e = f.end;
-    let b = scan::byte(s, e, b'-');
-    let t = either22(nothing(e), from13(s, b));
+    let t = after10(s, e);
     let end = t.end;
     let mut plan = t.plan;
     let equipment = f.equipment;
     plan.equipment = equipment;
     let surveillance = f.surveillance;
     plan.surveillance = surveillance;
-    either22(Found22 { end, plan }, from13(s, r))
+    Found22 { end, plan }
+}
+
+// What may follow a field 22 of number 09.
+fn after09(s: &[u8], r: Scan) -> Found22
+    ensures { λ q. ⌜ q ≡ found22 (opt (byte 45 ⨾ from10G)) (now (s .entry)) r ⌝ }
+{
+    let b = scan::byte(s, r, b'-');
+    if b.ok {
+        return from10(s, b);
+    }
+    nothing(r)
 }
 
 // Fields 22 from number 09 on.
 fn from09(s: &[u8], r: Scan) -> Found22
     ensures { λ q. ⌜ q ≡ found22 from09G (now (s .entry)) r ⌝ }
 {
-    if !r.ok {
-        return nothing(r);
-    }
     let a = scan::lit(s, r, b"09/");
+    if !a.ok {
+        let o = from10(s, r);
+        let e = o.end;
+        if a.next <= e.next {
+            return o;
+        }
+        return nothing(a);
+    }
     let f = fields::field09(s, a);
     let e = f.end;
-    let b = scan::byte(s, e, b'-');
-    let t = either22(nothing(e), from10(s, b));
+    let t = after09(s, e);
     let end = t.end;
     let mut plan = t.plan;
     let count = f.count;
@@ -222,28 +286,43 @@ fn from09(s: &[u8], r: Scan) -> Found22
     plan.model = model;
     let wake = f.wake;
     plan.wake = wake;
-    either22(Found22 { end, plan }, from10(s, r))
+    Found22 { end, plan }
+}
+
+// What may follow a field 22 of number 08.
+fn after08(s: &[u8], r: Scan) -> Found22
+    ensures { λ q. ⌜ q ≡ found22 (opt (byte 45 ⨾ from09G)) (now (s .entry)) r ⌝ }
+{
+    let b = scan::byte(s, r, b'-');
+    if b.ok {
+        return from09(s, b);
+    }
+    nothing(r)
 }
 
 // Fields 22 from number 08 on.
 fn from08(s: &[u8], r: Scan) -> Found22
     ensures { λ q. ⌜ q ≡ found22 from08G (now (s .entry)) r ⌝ }
 {
-    if !r.ok {
-        return nothing(r);
-    }
     let a = scan::lit(s, r, b"08/");
+    if !a.ok {
+        let o = from09(s, r);
+        let e = o.end;
+        if a.next <= e.next {
+            return o;
+        }
+        return nothing(a);
+    }
     let f = fields::field08(s, a);
     let e = f.end;
-    let b = scan::byte(s, e, b'-');
-    let t = either22(nothing(e), from09(s, b));
+    let t = after08(s, e);
     let end = t.end;
     let mut plan = t.plan;
     let rules = f.rules;
     plan.rules = rules;
     let flight = f.flight;
     plan.flight = flight;
-    either22(Found22 { end, plan }, from09(s, r))
+    Found22 { end, plan }
 }
 
 // One or more fields 22; 07 stands alone.
@@ -254,6 +333,14 @@ fn changes(s: &[u8], r: Scan) -> Found22
         return nothing(r);
     }
     let a = scan::lit(s, r, b"07/");
+    if !a.ok {
+        let o = from08(s, r);
+        let e = o.end;
+        if a.next <= e.next {
+            return o;
+        }
+        return nothing(a);
+    }
     let f = fields::field07(s, a);
     let end = f.end;
     let mut plan = no_plan();
@@ -261,7 +348,7 @@ fn changes(s: &[u8], r: Scan) -> Found22
     plan.aircraft = aircraft;
     let code = f.code;
     plan.code = code;
-    either22(Found22 { end, plan }, from08(s, r))
+    Found22 { end, plan }
 }
 
 // Of two ways to go on the one that leads.
@@ -326,7 +413,7 @@ fn with_nothing18(s: &[u8], r: Scan) -> FoundTail
 fn with_three18(s: &[u8], r: Scan) -> FoundTail
     ensures { λ q. ⌜ q ≡ foundTail (three18 0 ─ changesG) (now (s .entry)) r ⌝ }
 {
-    let a = scan::letters(s, r, 3, 3);
+    let a = scan::letters(s, r, 3);
     let b = scan::byte(s, a, b'/');
     let c = scan::words(s, b, 296);
     let f = changes(s, scan::byte(s, c, b'-'));
@@ -344,7 +431,7 @@ fn with_three18(s: &[u8], r: Scan) -> FoundTail
 fn with_four18(s: &[u8], r: Scan) -> FoundTail
     ensures { λ q. ⌜ q ≡ foundTail (four18 0 ─ changesG) (now (s .entry)) r ⌝ }
 {
-    let a = scan::letters(s, r, 4, 4);
+    let a = scan::letters(s, r, 4);
     let b = scan::byte(s, a, b'/');
     let c = scan::words(s, b, 295);
     let f = changes(s, scan::byte(s, c, b'-'));
@@ -358,13 +445,26 @@ fn with_four18(s: &[u8], r: Scan) -> FoundTail
     }
 }
 
-// Field 18 or none, then one or more fields 22.
+// Field 18 or none, then one or more fields 22. Four bytes tell three letters and a slash from all else, two bytes a
+// number or "0-". Only where none has gone so far all ways are compared.
 pub fn changed(s: &[u8], r: Scan) -> FoundTail
     ensures { λ q. ⌜ q ≡ foundTail changedG (now (s .entry)) r ⌝ }
 {
-    let a = without18(s, r);
-    let b = with_nothing18(s, r);
     let c = with_three18(s, r);
+    let z = c.end;
+    if 4 <= z.next - r.next {
+        return c;
+    }
+    let a = without18(s, r);
+    let x = a.end;
+    if 2 <= x.next - r.next {
+        return a;
+    }
+    let b = with_nothing18(s, r);
+    let y = b.end;
+    if 2 <= y.next - r.next {
+        return b;
+    }
     let d = with_four18(s, r);
     either_tail(a, either_tail(b, either_tail(c, d)))
 }

@@ -66,16 +66,9 @@ foundRouted s r l k = record {
   route = between16 (scan (byte 32) s l) (scan (byte 32 ⨾ words k) s l);
 }
 
-unfoldable pub eitherFound15 : Found15 → Found15 → Found15
-eitherFound15 a b = record {
-  end = longer (a .end) (b .end);
-  speed = cond (leads (a .end) (b .end)) (a .speed) (b .speed);
-  level = cond (leads (a .end) (b .end)) (a .level) (b .level);
-  route = cond (leads (a .end) (b .end)) (a .route) (b .route);
-}
-
+-- a level, a blank and words, of which k bytes are left
 unfoldable pub foundAfter15 : ℕ → List ℕ → Scan → Found15
-foundAfter15 k s r = eitherFound15 (foundRouted s r (scan level3 s r) (k - 5)) (eitherFound15 (foundRouted s r (scan level4 s r) (k - 6)) (foundRouted s r (scan (lit (86 ∷ 70 ∷ 82 ∷ [])) s r) (k - 4)))
+foundAfter15 k s r = record { end = scan (after15 0 k) s r; speed = none; level = spot n.level (after15 0 k) s r; route = spot n.route (after15 0 k) s r }
 
 -- a speed from r to v, and what follows it in k bytes
 unfoldable pub foundSped : List ℕ → Scan → Scan → ℕ → Found15
@@ -104,11 +97,6 @@ found16 o s r = record {
 
 abbrev pub found18 : ℕ → List ℕ → Scan → Found18
 found18 o s r = record { end = scan (g18 o) s r; indicator = spot (o + n.indicator) (g18 o) s r; other = spot (o + n.other) (g18 o) s r }
-
--- field 15 is the one or the other kind of speed with what follows it
-pub found15-is : (s : List ℕ) (r : Scan) → eitherFound15 (foundSped s r (scan (one (Of 75 78 78 78 78) ⨾ run Digit 4 4) s r) 295) (foundSped s r (scan (byte 77 ⨾ run Digit 3 3) s r) 296) ≡ found15 0 s r
-unfolding foundRouted eitherFound15 foundAfter15 foundSped after15 in15 occurs spanBy among
-found15-is s r = refl
 
 -- within field 22 a field's parts have other names and stand at the same places
 pub same07 : (s : List ℕ) (r : Scan) → found07 n.amended s r ≡ found07 0 s r

@@ -1,9 +1,12 @@
 // Document 01's fields: each function mirrors the grammar of one field and notes where its parts stand.
 ghost use mathlib.Core.Path.{_≡_};
+ghost use mathlib.Core.Bool.{_&&_, not};
+ghost use Rattle.scan.specs.declared.Class.the-variants.{Alnum};
+ghost use Rattle.scan.specs.Texts.{one as oneG};
 ghost use Prim.Native.Nat.{_≤_};
 ghost use Rattle.scan.specs.Scanner.{scan as scanG};
-ghost use Rattle.fields.specs.Fields.{counted as countedG, hour as hourG, minute as minuteG, timed, level3 as level3G, level4 as level4G, levelled, bearing as bearingG, bearingFrom, degrees as degreesG, minutes as minutesG, pointed};
-ghost use Rattle.fields.specs.Found.{foundNumber, found07, found08, found09, found10, found13, found13o, found14, foundRouted, eitherFound15, foundAfter15, foundSped, found15, foundAlternates, found16, found18};
+ghost use Rattle.fields.specs.Fields.{counted as countedG, hour as hourG, minute as minuteG, timed, levelled, bearing as bearingG, bearingFrom, degrees as degreesG, minutes as minutesG, pointed};
+ghost use Rattle.fields.specs.Found.{foundNumber, found07, found08, found09, found10, found13, found13o, found14, foundRouted, foundAfter15, foundSped, found15, foundAlternates, found16, found18};
 use scan::Scan;
 use scan::Span;
 
@@ -80,10 +83,10 @@ pub struct Found18 {
 pub fn number(s: &[u8], r: Scan) -> FoundNumber
     ensures { λ q. ⌜ q ≡ foundNumber (now (s .entry)) r ⌝ }
 {
-    let a = scan::letters(s, r, 4, 4);
+    let a = scan::letters(s, r, 4);
     let b = scan::byte(s, a, b'/');
-    let c = scan::letters(s, b, 4, 4);
-    let d = scan::digits(s, c, 3, 3);
+    let c = scan::letters(s, b, 4);
+    let d = scan::digits(s, c, 3);
     FoundNumber {
         end: d,
         sender: scan::between(r, a),
@@ -98,7 +101,7 @@ pub fn field07(s: &[u8], r: Scan) -> Found07
     let a = scan::alnums(s, r, 2, 7);
     let aircraft = scan::between(r, a);
     let b = scan::lit(s, a, b"/A");
-    let c = scan::octals(s, b, 4, 4);
+    let c = scan::octals(s, b, 4);
     let code = scan::either(a, c, scan::none(), scan::between(b, c));
     Found07 {
         end: scan::longer(a, c),
@@ -169,8 +172,11 @@ fn hour(s: &[u8], r: Scan) -> Scan
     ensures { λ q. ⌜ q ≡ scanG hourG (now (s .entry)) r ⌝ }
 {
     let a = scan::in_range(s, r, b'0', b'1');
+    if a.ok {
+        return scan::digit(s, a);
+    }
     let b = scan::byte(s, r, b'2');
-    scan::longer(scan::digit(s, a), scan::in_range(s, b, b'0', b'3'))
+    scan::in_range(s, b, b'0', b'3')
 }
 
 fn minute(s: &[u8], r: Scan) -> Scan
@@ -190,7 +196,7 @@ fn time(s: &[u8], r: Scan) -> Scan
 pub fn field13(s: &[u8], r: Scan) -> Found13
     ensures { λ q. ⌜ q ≡ found13 0 (now (s .entry)) r ⌝ }
 {
-    let a = scan::letters(s, r, 4, 4);
+    let a = scan::letters(s, r, 4);
     let departure = scan::between(r, a);
     let b = time(s, a);
     let time = scan::between(a, b);
@@ -205,7 +211,7 @@ pub fn field13(s: &[u8], r: Scan) -> Found13
 pub fn field13o(s: &[u8], r: Scan) -> Found13
     ensures { λ q. ⌜ q ≡ found13o (now (s .entry)) r ⌝ }
 {
-    let a = scan::letters(s, r, 4, 4);
+    let a = scan::letters(s, r, 4);
     let departure = scan::between(r, a);
     let b = time(s, a);
     let time = scan::either(a, b, scan::none(), scan::between(a, b));
@@ -216,27 +222,16 @@ pub fn field13o(s: &[u8], r: Scan) -> Found13
     }
 }
 
-// F or A with three digits.
-fn level3(s: &[u8], r: Scan) -> Scan
-    ensures { λ q. ⌜ q ≡ scanG level3G (now (s .entry)) r ⌝ }
-{
-    let a = scan::one_of(s, r, b'F', b'A', b'A', b'A', b'A');
-    scan::digits(s, a, 3, 3)
-}
-
-// S or M with four digits.
-fn level4(s: &[u8], r: Scan) -> Scan
-    ensures { λ q. ⌜ q ≡ scanG level4G (now (s .entry)) r ⌝ }
-{
-    let a = scan::one_of(s, r, b'S', b'M', b'M', b'M', b'M');
-    scan::digits(s, a, 4, 4)
-}
-
+// F or A with three digits, or S or M with four.
 fn level(s: &[u8], r: Scan) -> Scan
     ensures { λ q. ⌜ q ≡ scanG levelled (now (s .entry)) r ⌝ }
 {
-    let a = level3(s, r);
-    scan::longer(a, level4(s, r))
+    let a = scan::one_of(s, r, b'F', b'A', b'A', b'A', b'A');
+    if a.ok {
+        return scan::digits(s, a, 3);
+    }
+    let b = scan::one_of(s, r, b'S', b'M', b'M', b'M', b'M');
+    scan::digits(s, b, 4)
 }
 
 // 000 to 360.
@@ -244,12 +239,15 @@ fn bearing(s: &[u8], r: Scan) -> Scan
     ensures { λ q. ⌜ q ≡ scanG bearingG (now (s .entry)) r ⌝ }
 {
     let a = scan::in_range(s, r, b'0', b'2');
-    let b = scan::digits(s, a, 2, 2);
+    if a.ok {
+        return scan::digits(s, a, 2);
+    }
     let c = scan::byte(s, r, b'3');
     let d = scan::in_range(s, c, b'0', b'5');
-    let e = scan::digit(s, d);
-    let f = scan::lit(s, c, b"60");
-    scan::longer(b, scan::longer(e, f))
+    if d.ok {
+        return scan::digit(s, d);
+    }
+    scan::lit(s, c, b"60")
 }
 
 // A name of k letters or digits, with bearing and distance.
@@ -257,8 +255,11 @@ fn bearing_from(s: &[u8], r: Scan, k: usize) -> Scan
     ensures { λ q. ⌜ q ≡ scanG (bearingFrom k) (now (s .entry)) r ⌝ }
 {
     let a = scan::alnums(s, r, k, k);
+    if !a.ok {
+        return a;
+    }
     let b = bearing(s, a);
-    scan::digits(s, b, 3, 3)
+    scan::digits(s, b, 3)
 }
 
 // As 46N078W.
@@ -268,9 +269,12 @@ fn degrees(s: &[u8], r: Scan) -> Scan
     let a = scan::in_range(s, r, b'0', b'8');
     let b = scan::digit(s, a);
     let c = scan::longer(b, scan::lit(s, r, b"90"));
+    if !c.ok {
+        return c;
+    }
     let d = scan::one_of(s, c, b'N', b'S', b'S', b'S', b'S');
     let e = scan::byte(s, d, b'0');
-    let f = scan::digits(s, e, 2, 2);
+    let f = scan::digits(s, e, 2);
     let g = scan::byte(s, d, b'1');
     let h = scan::in_range(s, g, b'0', b'7');
     let i = scan::digit(s, h);
@@ -286,9 +290,12 @@ fn minutes(s: &[u8], r: Scan) -> Scan
     let a = scan::in_range(s, r, b'0', b'8');
     let b = minute(s, scan::digit(s, a));
     let c = scan::longer(b, scan::lit(s, r, b"9000"));
+    if !c.ok {
+        return c;
+    }
     let d = scan::one_of(s, c, b'N', b'S', b'S', b'S', b'S');
     let e = scan::byte(s, d, b'0');
-    let f = minute(s, scan::digits(s, e, 2, 2));
+    let f = minute(s, scan::digits(s, e, 2));
     let g = scan::byte(s, d, b'1');
     let h = scan::in_range(s, g, b'0', b'7');
     let i = minute(s, scan::digit(s, h));
@@ -297,14 +304,38 @@ fn minutes(s: &[u8], r: Scan) -> Scan
     scan::one_of(s, k, b'E', b'W', b'W', b'W', b'W')
 }
 
+// Whether r is whole and neither letter nor digit follows. All forms of a point consist of these, so none goes on there.
+fn ended(s: &[u8], r: Scan) -> bool
+    ensures { λ b. ⌜ b ≡ (r .ok && not (scanG (oneG Alnum) (now (s .entry)) r .ok)) ⌝ }
+{
+    let z = scan::alnums(s, r, 1, 1);
+    r.ok & !z.ok
+}
+
+// The forms are tried in turn. One that has ended is taken if no earlier one was whole and the name is behind.
 fn point(s: &[u8], r: Scan) -> Scan
     ensures { λ q. ⌜ q ≡ scanG pointed (now (s .entry)) r ⌝ }
 {
     let a = scan::alnums(s, r, 2, 5);
+    if ended(s, a) {
+        return a;
+    }
     let b = bearing_from(s, r, 2);
+    if ended(s, b) & (a.next < b.next) {
+        return b;
+    }
     let c = bearing_from(s, r, 3);
+    if ended(s, c) & (a.next < c.next) & !b.ok {
+        return c;
+    }
     let d = bearing_from(s, r, 4);
+    if ended(s, d) & (a.next < d.next) & !b.ok & !c.ok {
+        return d;
+    }
     let e = bearing_from(s, r, 5);
+    if ended(s, e) & (a.next < e.next) & !b.ok & !c.ok & !d.ok {
+        return e;
+    }
     let f = scan::longer(b, scan::longer(c, scan::longer(d, e)));
     let g = scan::longer(degrees(s, r), minutes(s, r));
     scan::longer(a, scan::longer(f, g))
@@ -346,32 +377,25 @@ fn routed(s: &[u8], r: Scan, l: Scan, k: usize) -> Found15
     }
 }
 
-// Of two ways to go on in field 15 the one that leads.
-fn either15(a: Found15, b: Found15) -> Found15
-    ensures { λ q. ⌜ q ≡ eitherFound15 a b ⌝ }
-{
-    Found15 {
-        end: scan::longer(a.end, b.end),
-        speed: scan::either(a.end, b.end, a.speed, b.speed),
-        level: scan::either(a.end, b.end, a.level, b.level),
-        route: scan::either(a.end, b.end, a.route, b.route),
-    }
-}
-
-// Field 15 after its speed, of which k bytes are left.
+// Field 15 after its speed, of which k bytes are left. The first byte says which kind of level it can be.
 fn after15(s: &[u8], r: Scan, k: usize) -> Found15
-    requires { ⌜ 6 ≤ k ⌝ }
+    requires { ⌜ 7 ≤ k ⌝ }
     ensures { λ q. ⌜ q ≡ foundAfter15 k (now (s .entry)) r ⌝ }
 {
-    let a = routed(s, r, level3(s, r), k - 5);
-    let b = routed(s, r, level4(s, r), k - 6);
-    let c = routed(s, r, scan::lit(s, r, b"VFR"), k - 4);
-    either15(a, either15(b, c))
+    let a = scan::one_of(s, r, b'F', b'A', b'A', b'A', b'A');
+    if a.ok {
+        return routed(s, r, scan::digits(s, a, 3), k - 5);
+    }
+    let b = scan::one_of(s, r, b'S', b'M', b'M', b'M', b'M');
+    if b.ok {
+        return routed(s, r, scan::digits(s, b, 4), k - 6);
+    }
+    routed(s, r, scan::lit(s, r, b"VFR"), k - 4)
 }
 
 // Field 15 with a speed that was scanned from r to v, and k bytes left.
 fn sped(s: &[u8], r: Scan, v: Scan, k: usize) -> Found15
-    requires { ⌜ (6 ≤ k) × (r .next ≤ v .next) ⌝ }
+    requires { ⌜ (7 ≤ k) × (r .next ≤ v .next) ⌝ }
     ensures { λ q. ⌜ q ≡ foundSped (now (s .entry)) r v k ⌝ }
 {
     let speed = scan::between(r, v);
@@ -391,10 +415,11 @@ pub fn field15(s: &[u8], r: Scan) -> Found15
     ensures { λ q. ⌜ q ≡ found15 0 (now (s .entry)) r ⌝ }
 {
     let a = scan::one_of(s, r, b'K', b'N', b'N', b'N', b'N');
-    let b = sped(s, r, scan::digits(s, a, 4, 4), 295);
-    let d = scan::byte(s, r, b'M');
-    let e = sped(s, r, scan::digits(s, d, 3, 3), 296);
-    either15(b, e)
+    if a.ok {
+        return sped(s, r, scan::digits(s, a, 4), 295);
+    }
+    let b = scan::byte(s, r, b'M');
+    sped(s, r, scan::digits(s, b, 3), 296)
 }
 
 // Up to two alternates, each a blank and four letters.
@@ -402,9 +427,9 @@ fn alternates(s: &[u8], r: Scan) -> Found16
     ensures { λ q. ⌜ q ≡ foundAlternates (now (s .entry)) r ⌝ }
 {
     let a = scan::byte(s, r, b' ');
-    let b = scan::letters(s, a, 4, 4);
+    let b = scan::letters(s, a, 4);
     let c = scan::byte(s, b, b' ');
-    let d = scan::letters(s, c, 4, 4);
+    let d = scan::letters(s, c, 4);
     let e = scan::longer(b, d);
     let two = scan::either(b, d, scan::none(), scan::between(c, d));
     Found16 {
@@ -419,9 +444,9 @@ fn alternates(s: &[u8], r: Scan) -> Found16
 pub fn field16(s: &[u8], r: Scan) -> Found16
     ensures { λ q. ⌜ q ≡ found16 0 (now (s .entry)) r ⌝ }
 {
-    let a = scan::letters(s, r, 4, 4);
+    let a = scan::letters(s, r, 4);
     let destination = scan::between(r, a);
-    let h = scan::digits(s, a, 2, 2);
+    let h = scan::digits(s, a, 2);
     let b = minute(s, h);
     let elapsed = scan::either(a, b, scan::none(), scan::between(a, b));
     let c = alternates(s, scan::longer(a, b));
@@ -437,32 +462,34 @@ pub fn field16(s: &[u8], r: Scan) -> Found16
     }
 }
 
+// Three letters and a slash leave no room for a fourth letter, and what stops three letters stops four.
 pub fn field18(s: &[u8], r: Scan) -> Found18
     ensures { λ q. ⌜ q ≡ found18 0 (now (s .entry)) r ⌝ }
 {
     let a = scan::byte(s, r, b'0');
-    let b = scan::letters(s, r, 3, 3);
+    if a.ok {
+        return Found18 {
+            end: a,
+            indicator: scan::between(r, a),
+            other: scan::none(),
+        };
+    }
+    let b = scan::letters(s, r, 3);
     let c = scan::byte(s, b, b'/');
-    let d = scan::words(s, c, 296);
-    let e = scan::letters(s, r, 4, 4);
+    if c.ok {
+        let d = scan::words(s, c, 296);
+        return Found18 {
+            end: d,
+            indicator: scan::between(r, b),
+            other: scan::between(c, d),
+        };
+    }
+    let e = scan::letters(s, r, 4);
     let f = scan::byte(s, e, b'/');
     let g = scan::words(s, f, 295);
-    let h = scan::longer(d, g);
-    let indicator = scan::either(
-        a,
-        h,
-        scan::between(r, a),
-        scan::either(d, g, scan::between(r, b), scan::between(r, e)),
-    );
-    let other = scan::either(
-        a,
-        h,
-        scan::none(),
-        scan::either(d, g, scan::between(c, d), scan::between(f, g)),
-    );
     Found18 {
-        end: scan::longer(a, h),
-        indicator,
-        other,
+        end: g,
+        indicator: scan::between(r, e),
+        other: scan::between(f, g),
     }
 }

@@ -1,4 +1,4 @@
-pub mod Splicing
+pub mod Feeding
 pub mod Decimals
 pub mod Lines
 pub mod Progressing

@@ -8,11 +8,11 @@ use native.Mathlib.Omega.{arith}
 use lib.Dec.{eqb}
 use lib.ListN.{length, take, drop}
 use lib.Seq.{take-take, take-nil, drop-nil}
-use Rattle.list.proofs.Splicing.{take-most}
+use Rattle.list.proofs.Feeding.{take-most}
 use Rattle.message.specs.Reader.{verdict, judged-by-beginning}
 use Rattle.message.specs.declared.Verdict.{Verdict}
 use Rattle.message.specs.declared.Verdict.the-variants.{Read, Refused}
-use Rattle.list.specs.Splices.{feedless}
+use Rattle.list.specs.Feeds.{feedless}
 use Rattle.list.specs.Numbers.{decimal}
 use Rattle.list.specs.Listing.{endedFrom, unfinishedFrom, labelled, refusedWord, saying, lineOf, linesFrom, ifRead, ifRefused, readOf, refusedOf}
 

@@ -11,10 +11,12 @@ use lib.Dec.{ltb, eqb}
 use borrow.Author.Tests.{leb-true, le-leb, eqb-true, eqb-false, ltb-false, le-ltb}
 use Rattle.message.specs.Reader.{verdict, judged-by-beginning}
 use Rattle.list.specs.declared.Tally.{Tally}
-use Rattle.list.specs.Splices.{Wrote, Tells, LineEnd, feedless}
+use Rattle.splice.specs.Splice.{Spliced}
+use Rattle.list.specs.Feeds.{Tells, LineEnd, feedless}
 use Rattle.list.specs.Listing.{ended, unfinished, lineOf, linesFrom, ifRead, readOf, refusedOf, lastLine, texts, totals, brokeOff, listing, broken}
 use Rattle.list.specs.Progress.{mostLines, room, soundly, Holds, After}
-use Rattle.list.proofs.Splicing.{front, behind, take-most, same-bytes}
+use Rattle.splice.specs.Splicing.{front, behind, same-bytes}
+use Rattle.list.proofs.Feeding.{take-most}
 use Rattle.list.proofs.Lines.{ended-append, ended-part, ended-line, unfinished-append, unfinished-part, unfinished-line, lines-more, read-more, all-counted, at-most-one, line-by-beginning, same-line, same-verdict, kept-append}
 
 -- part was put behind the bytes that are held, as far as there is room
@@ -28,7 +30,7 @@ kept-part held n line part h l e =
     ∙ ap (λ (j : ℕ). take j (take held line ++ part)) m
 
 pub holds-more : (held n : ℕ) (line part : List ℕ) {line' : List ℕ} {r : ℕ} → held ≤ 1078 → length line ≡ 1078 → n ≡ min (1078 - held) (length part)
-    → Wrote held (take n part) line line' r → Holds (take held line ++ part) line' r
+    → Spliced held (take n part) line line' r → Holds (take held line ++ part) line' r
 holds-more held n line part {line'} {r} h l e w =
     let m : length (take n part) ≡ min n (length part) = length-take n part in
     let k : length (take held line) ≡ held = length-take-le held line (omega arith) in

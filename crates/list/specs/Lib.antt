@@ -1,4 +1,4 @@
 pub mod Listing
 pub mod Numbers
-pub mod Splices
+pub mod Feeds
 pub mod Progress

@@ -7,23 +7,11 @@ ghost use Prim.Native.Nat.{ℕ, _+_, _≤_, _<_, min};
 ghost use lib.ListN.{length, take, drop};
 ghost use Rattle.message.specs.Reader.{verdict};
 ghost use Rattle.list.specs.Numbers.{decimal};
-ghost use Rattle.list.specs.Splices.{Wrote, Tells, LineEnd, feedless};
+ghost use Rattle.splice.specs.Splice.{Spliced};
+ghost use Rattle.list.specs.Feeds.{Tells, LineEnd, feedless};
 ghost use Rattle.list.specs.Listing.{labelled, refusedWord, lineOf, ifRead, totals, listing, broken};
 ghost use Rattle.list.specs.Progress.{kept, soundly, Holds, After, Fed, Ends};
 use message::Verdict;
-
-// Writes src over d from index at on, and answers the index behind it.
-fn put(d: &mut [u8], at: usize, src: &[u8]) -> usize
-    requires { ⌜ at + length (now src) ≤ length (now d) ⌝ }
-    ensures { λ r. ⌜ Wrote at (now (src .entry)) (now (d .entry)) (now (d .exit)) r ⌝ }
-{
-    let mut i = 0;
-    while i < src.len() {
-        d[at + i] = src[i];
-        i += 1;
-    }
-    at + i
-}
 
 fn digit(n: u64) -> u8
     requires { ⌜ n < 10 ⌝ }
@@ -35,7 +23,7 @@ fn digit(n: u64) -> u8
 // Writes n in decimal over d from index at on, and answers the index behind it.
 fn put_number(d: &mut [u8], at: usize, n: u64) -> usize
     requires { ⌜ at + 20 ≤ length (now d) ⌝ }
-    ensures { λ r. ⌜ Wrote at (decimal n) (now (d .entry)) (now (d .exit)) r ⌝ }
+    ensures { λ r. ⌜ Spliced at (decimal n) (now (d .entry)) (now (d .exit)) r ⌝ }
     ensures { λ r. ⌜ r ≤ at + 20 ⌝ }
 {
     let mut digits = [0u8; 20];
@@ -48,16 +36,16 @@ fn put_number(d: &mut [u8], at: usize, n: u64) -> usize
     }
     i -= 1;
     digits[i] = digit(rest);
-    put(d, at, &digits[i..])
+    splice::put(d, at, &digits[i..])
 }
 
 // Writes a word and a number behind it over d from index at on, and answers the index behind them.
 fn put_labelled(d: &mut [u8], at: usize, word: &[u8], n: u64) -> usize
     requires { ⌜ at + length (now word) + 20 ≤ length (now d) ⌝ }
-    ensures { λ r. ⌜ Wrote at (labelled (now (word .entry)) n) (now (d .entry)) (now (d .exit)) r ⌝ }
+    ensures { λ r. ⌜ Spliced at (labelled (now (word .entry)) n) (now (d .entry)) (now (d .exit)) r ⌝ }
     ensures { λ r. ⌜ r ≤ at + length (now (word .entry)) + 20 ⌝ }
 {
-    let number = put(d, at, word);
+    let number = splice::put(d, at, word);
     put_number(d, number, n)
 }
 
@@ -98,7 +86,7 @@ fn plain_blocks(s: &[u8]) -> usize
 }
 
 // Where the first line feed of s stands, or the length of s where it has none.
-fn line_end(s: &[u8]) -> usize
+pub fn line_end(s: &[u8]) -> usize
     ensures { λ r. ⌜ LineEnd (now (s .entry)) r ⌝ }
 {
     let mut i = plain_blocks(s);
@@ -116,19 +104,19 @@ fn line_end(s: &[u8]) -> usize
 // What is said of a text that is read: the letters of its type.
 fn put_type(d: &mut [u8], at: usize, text: &[u8]) -> usize
     requires { ⌜ at + 4 ≤ length (now d) ⌝ }
-    ensures { λ r. ⌜ Wrote at ((32 ∷ []) ++ take 3 (drop 1 (now (text .entry)))) (now (d .entry)) (now (d .exit)) r ⌝ }
+    ensures { λ r. ⌜ Spliced at ((32 ∷ []) ++ take 3 (drop 1 (now (text .entry)))) (now (d .entry)) (now (d .exit)) r ⌝ }
     ensures { λ r. ⌜ r ≤ at + 4 ⌝ }
 {
     let start = least(1, text.len());
     let end = least(4, text.len());
-    let blank = put(d, at, b" ");
-    put(d, blank, &text[start..end])
+    let blank = splice::put(d, at, b" ");
+    splice::put(d, blank, &text[start..end])
 }
 
 // What is said of a text that is refused: its place, and the hyphens before it.
 fn put_refusal(d: &mut [u8], at: usize, place: u64, hyphens: u64) -> usize
     requires { ⌜ at + 50 ≤ length (now d) ⌝ }
-    ensures { λ r. ⌜ Wrote at (labelled refusedWord place ++ labelled (32 ∷ []) hyphens) (now (d .entry)) (now (d .exit)) r ⌝ }
+    ensures { λ r. ⌜ Spliced at (labelled refusedWord place ++ labelled (32 ∷ []) hyphens) (now (d .entry)) (now (d .exit)) r ⌝ }
     ensures { λ r. ⌜ r ≤ at + 50 ⌝ }
 {
     let first = put_labelled(d, at, b" refused ", place);
@@ -151,12 +139,12 @@ fn tell(d: &mut [u8], at: usize, k: u64, text: &[u8]) -> Told
     match verdict {
         Verdict::Read => {
             let word = put_type(d, number, text);
-            let next = put(d, word, b"\n");
+            let next = splice::put(d, word, b"\n");
             Told { next, read: 1 }
         }
         Verdict::Refused(place, hyphens) => {
             let word = put_refusal(d, number, place as u64, hyphens as u64);
-            let next = put(d, word, b"\n");
+            let next = splice::put(d, word, b"\n");
             Told { next, read: 0 }
         }
     }
@@ -170,7 +158,7 @@ fn hold(line: &mut [u8], held: usize, part: &[u8]) -> usize
     ensures { λ r. ⌜ Holds (take held (now (line .entry)) ++ now (part .entry)) (now (line .exit)) r ⌝ }
 {
     let n = least(KEPT - held, part.len());
-    put(line, held, &part[..n])
+    splice::put(line, held, &part[..n])
 }
 
 // Tells of the text that is the held bytes of line with part behind them.
@@ -287,13 +275,13 @@ pub fn feed(tally: Tally, line: &mut [u8; KEPT], piece: &[u8], out: &mut [u8]) -
 // Writes the totals over d from index at on.
 fn put_totals(d: &mut [u8], at: usize, lines: u64, read: u64, refused: u64) -> usize
     requires { ⌜ at + 82 ≤ length (now d) ⌝ }
-    ensures { λ r. ⌜ Wrote at (totals lines read refused) (now (d .entry)) (now (d .exit)) r ⌝ }
+    ensures { λ r. ⌜ Spliced at (totals lines read refused) (now (d .entry)) (now (d .exit)) r ⌝ }
     ensures { λ r. ⌜ r ≤ at + 82 ⌝ }
 {
     let a = put_labelled(d, at, b"lines ", lines);
     let b = put_labelled(d, a, b" read ", read);
     let c = put_labelled(d, b, b" refused ", refused);
-    put(d, c, b"\n")
+    splice::put(d, c, b"\n")
 }
 
 // At the end of the input: writes what the report still lacks to the start of out, and answers how many bytes that
@@ -328,5 +316,5 @@ pub fn broke(tally: Tally, out: &mut [u8]) -> usize
         return 0;
     }
     let a = put_labelled(out, 0, b"broke off after ", tally.lines);
-    put(out, a, b" lines\n")
+    splice::put(out, a, b" lines\n")
 }

@@ -124,6 +124,9 @@ fn figure(s: &[u8], at: usize, len: usize) -> usize
     requires { ⌜ at ≤ 65536 ⌝ }
     ensures { λ r. ⌜ r ≡ figureAt len (now (s .entry)) at ⌝ }
 {
+    if len == 0 {
+        return 0;
+    }
     let a = digit(s, at);
     if len == 1 {
         return a;

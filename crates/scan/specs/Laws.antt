@@ -1,19 +1,21 @@
 -- What the loops of the code need of the scanner: how it stops, and one step of it.
 use mathlib.Core.Path.{_≡_, refl, sym, ap, _∙_}
-use mathlib.Core.Bool.{Bool, true, false, cond, _&&_, _||_}
+use mathlib.Core.Logic.{_⊎_, inl, inr}
+use mathlib.Core.Bool.{Bool, true, false, cond, _&&_, _||_, false≢true}
 use mathlib.Core.List.{List, [], _∷_}
 use Prim.Native.Nat.{ℕ, zero, suc, _+_, _-_, _≤_, _<_}
 use native.Mathlib.Omega.{arith}
 use native.Mathlib.Numerals.{add-one}
-use lib.ListN.{length, getD, drop, drop-of-length-le}
+use lib.ListN.{length, getD, take, drop, drop-of-length-le}
 use lib.Seq.{drop-cons}
 use Rattle.scan.specs.Texts.{lit, byte}
-use lib.Dec.{leb, ltb, leb·suc-suc}
-use borrow.Author.Tests.{lt-ltb, le-ltb, le-leb, leb-true}
+use lib.Dec.{leb, ltb, eqb, leb·suc-suc}
+use borrow.Author.Tests.{lt-ltb, le-ltb, le-leb, lt-leb, ne-eqb, leb-true, ltb-true, ltb-false}
 use Rattle.scan.specs.declared.Scan.{Scan}
 use Rattle.scan.specs.declared.Class.{Class}
 use Rattle.scan.specs.declared.Class.the-variants.{Word, Byte, Range, Two}
-use Rattle.scan.specs.Grammar.{isIn, G, run}
+use Rattle.scan.specs.Grammar.{isIn, all, G, run}
+use Rattle.scan.specs.Bools.{and-l, and-r, both, known}
 use Rattle.scan.specs.Scanner.{scan, runAt, runScan, wordsAt, wordsScan}
 
 module _ (c : Class) (s : List ℕ) (i : ℕ) where
@@ -36,6 +38,101 @@ module _ (c : Class) (s : List ℕ) (i : ℕ) where
   unfolding runAt
   run-on zero z h e = absurd (omega arith)
   run-on (suc k) z h e = let n : suc k - 1 ≡ k = omega arith in rw (lt-ltb i (length s) h, e, n)
+
+-- a block of a run
+pub run-block : (c : Class) (m k : ℕ) (s : List ℕ) (at : ℕ) → m ≤ k → at + m ≤ length s → all c (take m (drop at s)) ≡ true → runAt c k s at ≡ runAt c (k - m) s (at + m)
+unfolding all
+run-block c zero k s at z h e =
+    let a : k - 0 ≡ k = omega arith in
+    let b : at + 0 ≡ at = omega arith in
+    rw (a, b)
+run-block c (suc m) k s at z h e =
+    let l : at < length s = omega arith in
+    let d : drop at s ≡ getD s at 0 ∷ drop (at + 1) s = rw (add-one at) (drop-cons s at 0 l) in
+    let p : isIn c (getD s at 0) && all c (take m (drop (at + 1) s)) ≡ true = rw d at e in
+    let a : k - 1 - m ≡ k - suc m = omega arith in
+    let b : at + 1 + m ≡ at + suc m = omega arith in
+    run-on c s at k (omega arith) l (and-l (isIn c (getD s at 0)) (all c (take m (drop (at + 1) s))) p) ∙ run-block c m (k - 1) s (at + 1) (omega arith) (omega arith) (and-r (isIn c (getD s at 0)) (all c (take m (drop (at + 1) s))) p) ∙ rw (a, b)
+
+-- the block that a loop looked at
+pub run-blocks : (c : Class) (m k : ℕ) (s : List ℕ) (at : ℕ) → m ≤ k → at + m ≤ length s → all c (take (at + m - at) (drop at s)) ≡ true → runAt c k s at ≡ runAt c (k - m) s (at + m)
+run-blocks c m k s at z h e = let n : at + m - at ≡ m = omega arith in run-block c m k s at z h (rw n at e)
+
+-- a whole run
+run-all : (c : Class) (k : ℕ) (s : List ℕ) (at : ℕ) → at + k ≤ length s → all c (take k (drop at s)) ≡ true → runAt c k s at ≡ at + k
+run-all c k s at h e = run-block c k k s at (omega arith) h e ∙ run-none c s (at + k) (k - k) (omega arith)
+
+-- and the other way round
+whole-run : (c : Class) (k : ℕ) (s : List ℕ) (at : ℕ) → at + k ≤ runAt c k s at → (all c (take k (drop at s)) ≡ true) × (0 < k → at + k ≤ length s)
+unfolding runAt all
+whole-run c zero s at h = (refl, λ z. absurd (omega arith))
+whole-run c (suc k) s at h = go (known (ltb at (length s) && isIn c (getD s at 0))) (whole-run c k s (at + 1)) (last k (whole-run c k s (at + 1)))
+  where
+    b : Bool
+    b = ltb at (length s) && isIn c (getD s at 0)
+
+    last : (k : ℕ) → (at + 1 + k ≤ runAt c k s (at + 1) → (all c (take k (drop (at + 1) s)) ≡ true) × (0 < k → at + 1 + k ≤ length s)) → at < length s → at + 1 + k ≤ runAt c k s (at + 1) → at + suc k ≤ length s
+    last zero f l m = omega arith
+    last (suc k) f l m = omega (arith, f m .1 (omega arith))
+
+    go : (b ≡ true) ⊎ (b ≡ false) → (at + 1 + k ≤ runAt c k s (at + 1) → (all c (take k (drop (at + 1) s)) ≡ true) × (0 < k → at + 1 + k ≤ length s)) → (at < length s → at + 1 + k ≤ runAt c k s (at + 1) → at + suc k ≤ length s) → (all c (take (suc k) (drop at s)) ≡ true) × (0 < suc k → at + suc k ≤ length s)
+    go (inr e) f g = let m : at + suc k ≤ at = rw e at h in absurd (omega arith)
+    go (inl e) f g =
+        let l : at < length s = ltb-true at (length s) (and-l (ltb at (length s)) (isIn c (getD s at 0)) e) in
+        let d : drop at s ≡ getD s at 0 ∷ drop (at + 1) s = rw (add-one at) (drop-cons s at 0 l) in
+        let m : at + suc k ≤ runAt c k s (at + 1) = rw e at h in
+        let n : at + 1 + k ≤ runAt c k s (at + 1) = omega arith in
+        (rw d (both (isIn c (getD s at 0)) (all c (take k (drop (at + 1) s))) (and-r (ltb at (length s)) (isIn c (getD s at 0)) e) (f n .0)), λ z. g l n)
+
+-- b says whether a run of k bytes is whole; for none it may say that it is not
+unfoldable pub Whole : Class → ℕ → List ℕ → ℕ → Bool → Type 0
+Whole c k s at b = (b ≡ true → (runAt c k s at ≡ at + k) × (at + k ≤ length s)) × (b ≡ false → 0 < k → runAt c k s at < at + k)
+
+module _ (c : Class) (k : ℕ) (s : List ℕ) (at : ℕ) where
+  short : (at + k ≤ length s → all c (take k (drop at s)) ≡ false) → 0 < k → (b : Bool) → ltb (runAt c k s at) (at + k) ≡ b → runAt c k s at < at + k
+  short f z true e = ltb-true (runAt c k s at) (at + k) e
+  short f z false e = let w = whole-run c k s at (ltb-false (runAt c k s at) (at + k) e) in absurd (false≢true (sym (f (w .1 z)) ∙ w .0))
+
+  pub whole-not : length s < at + k → Whole c k s at false
+  unfolding Whole
+  whole-not h = (λ e. absurd (false≢true e), λ _ z. short (λ l. absurd (omega arith)) z (ltb (runAt c k s at) (at + k)) refl)
+
+  pub whole-as : (b : Bool) → at + k ≤ length s → b ≡ all c (take (at + k - at) (drop at s)) → Whole c k s at b
+  unfolding Whole
+  whole-as b h e =
+      let n : at + k - at ≡ k = omega arith in
+      let q : b ≡ all c (take k (drop at s)) = rw n at e in
+      (λ o. (run-all c k s at h (sym q ∙ o), h), λ o z. short (λ _. sym q ∙ o) z (ltb (runAt c k s at) (at + k)) refl)
+
+module _ (c : Class) (k : ℕ) (s : List ℕ) (r : Scan) (o : r .ok ≡ true) (b : Bool) (w : Whole c k s (r .next) b) where
+  pub exact-fits : b ≡ true → r .next + k ≤ length s
+  unfolding Whole
+  exact-fits e = w .0 e .1
+
+  pub exact-whole : b ≡ true → record { next = r .next + k; ok = true } ≡ runScan c k k s r
+  unfolding runScan Whole
+  exact-whole e =
+      let n : r .next + k - r .next ≡ k = omega arith in
+      rw (o, w .0 e .0, n, le-leb k k (omega arith))
+
+  pub exact-short : b ≡ false → (i : ℕ) → i ≡ runAt c k s (r .next) → record { next = i; ok = eqb k 0 } ≡ runScan c k k s r
+  unfolding runScan Whole
+  exact-short e i p = rw (o, p) (λ j. record { next = runAt c k s (r .next); ok = same k (w .1 e) j })
+    where
+      same : (m : ℕ) → (0 < m → runAt c k s (r .next) < r .next + m) → eqb m 0 ≡ leb m (runAt c k s (r .next) - r .next)
+      same zero f = sym (le-leb 0 (runAt c k s (r .next) - r .next) (omega arith))
+      same (suc m) f = ne-eqb (suc m) 0 (λ e. omega arith) ∙ sym (lt-leb (suc m) (runAt c k s (r .next) - r .next) (omega (arith, f (omega arith))))
+
+-- ok: whether the bytes before j are of the class, b: whether all are
+pub all-next : (c : Class) (t : List ℕ) (j : ℕ) (ok f b : Bool) → j < length t → f ≡ isIn c (getD t j 0) → b ≡ (ok && all c (drop j t)) → b ≡ ((ok && f) && all c (drop (j + 1) t))
+unfolding all
+all-next c t j true f b h q e = e ∙ rw (drop-cons t j 0 h, q, add-one)
+all-next c t j false f b h q e = e
+
+pub all-end : (c : Class) (t : List ℕ) (j : ℕ) (ok b : Bool) → length t ≤ j → b ≡ (ok && all c (drop j t)) → ok ≡ b
+unfolding all
+all-end c t j true b h e = sym (e ∙ rw (drop-of-length-le t h))
+all-end c t j false b h e = sym e
 
 -- classes of the same bytes run alike
 pub run-alike : (c d : Class) → ((x : ℕ) → isIn c x ≡ isIn d x) → (k : ℕ) (s : List ℕ) (at : ℕ) → runAt c k s at ≡ runAt d k s at

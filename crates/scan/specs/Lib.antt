@@ -7,4 +7,5 @@ pub mod Theory
 pub mod Parts
 pub mod Bounds
 pub mod Laws
+pub mod Picks
 pub mod Blocks

@@ -44,7 +44,7 @@ derives-reads (field ns g) at w d = derives-reads g at w d
 -- No text is of both
 
 -- each byte is in its set, as far as there are sets
-abbrev Fits : List Ranges → List ℕ → Type 0
+abbrev pub Fits : List Ranges → List ℕ → Type 0
 Fits [] w = Unit
 Fits (r ∷ c) [] = ⊥
 Fits (r ∷ c) (x ∷ w) = (has r x ≡ true) × Fits c w
@@ -78,7 +78,7 @@ fixed-sound (alt a b) e w d = absurd (false≢true e)
 fixed-sound (part n g) e w d = fixed-sound g e w d
 fixed-sound (field ns g) e w d = fixed-sound g e w d
 
-heads-sound : (g : G) (w : List ℕ) → Derives g w → Fits (heads g) w
+pub heads-sound : (g : G) (w : List ℕ) → Derives g w → Fits (heads g) w
 unfolding heads
 heads-sound eps w d = tt
 heads-sound (run c lo hi) w d = fits-all c lo w (d .0) (d .1)
@@ -167,7 +167,7 @@ one-reading (field ns g) e f at w ps qs r t = one-reading g e (and-l (plain g) (
 
 -- Names
 
-among-on : (n : ℕ) (l m : List ℕ) → (among n l ≡ true) ⊎ (among n m ≡ true) → among n (l ++ m) ≡ true
+pub among-on : (n : ℕ) (l m : List ℕ) → (among n l ≡ true) ⊎ (among n m ≡ true) → among n (l ++ m) ≡ true
 unfolding among
 among-on n [] m (inl e) = absurd (false≢true e)
 among-on n [] m (inr e) = e
@@ -175,7 +175,7 @@ among-on n (k ∷ l) m (inl e) = ⊎-elim (λ h. or-l (eqb n k) (among n (l ++ m
 among-on n (k ∷ l) m (inr e) = or-r (eqb n k) (among n (l ++ m)) (among-on n l m (inr e))
 
 -- what a grammar names is among its names
-named : (g : G) (n : ℕ) → occurs n g ≡ true → among n (names g) ≡ true
+pub named : (g : G) (n : ℕ) → occurs n g ≡ true → among n (names g) ≡ true
 unfolding occurs names among
 named eps n o = absurd (false≢true o)
 named (run c lo hi) n o = absurd (false≢true o)
@@ -185,14 +185,14 @@ named (alt a b) n o = among-on n (names a) (names b) (⊎-elim (λ h. inl (named
 named (part m g) n o = or-l (eqb n m) false o
 named (field ns g) n o = o
 
-covers-sound : (ns ms : List ℕ) → covers ns ms ≡ true → (n : ℕ) → among n ms ≡ true → among n ns ≡ true
+pub covers-sound : (ns ms : List ℕ) → covers ns ms ≡ true → (n : ℕ) → among n ms ≡ true → among n ns ≡ true
 unfolding covers among
 covers-sound ns [] e n h = absurd (false≢true h)
 covers-sound ns (m ∷ ms) e n h =
     ⊎-elim (λ k. rw (eqb-true n m k) (and-l (among m ns) (covers ns ms) e)) (λ k. covers-sound ns ms (and-r (among m ns) (covers ns ms) e) n k)
     (or-split (eqb n m) (among n ms) h)
 
-strange-sound : (ms : List ℕ) (g : G) → strange ms g ≡ true → (n : ℕ) → among n ms ≡ true → occurs n g ≡ false
+pub strange-sound : (ms : List ℕ) (g : G) → strange ms g ≡ true → (n : ℕ) → among n ms ≡ true → occurs n g ≡ false
 unfolding strange among
 strange-sound [] g e n h = absurd (false≢true h)
 strange-sound (m ∷ ms) g e n h =

@@ -2,9 +2,10 @@
 ghost use mathlib.Core.Path.{_≡_};
 ghost use mathlib.Core.Bool.{cond, false};
 ghost use Prim.Native.Nat.{_≤_, _<_};
-ghost use Rattle.scan.specs.Grammar.{isIn, none as noneOf, run as runG, words as wordsG};
+ghost use Rattle.scan.specs.Grammar.{isIn, all, none as noneOf, run as runG, words as wordsG};
 ghost use lib.ListN.{length};
 ghost use Rattle.scan.specs.declared.Class.the-variants.{Word};
+ghost use Rattle.scan.specs.Laws.{Whole};
 ghost use Rattle.scan.specs.Blocks.{cleanFrom};
 ghost use Rattle.scan.specs.Scanner.{runAt, wordsAt, scan, longer as longerOf, leads as leadsOf, between16};
 ghost use Rattle.scan.specs.Texts.{lit as litG, byte as byteG, one as oneG};
@@ -89,7 +90,20 @@ fn reach(s: &[u8], at: usize, hi: usize, a: u8, z: u8, b: u8, y: u8) -> usize
     i
 }
 
-// From lo to hi bytes from a to z or from b to y.
+// Whether each byte is from a to z or from b to y. As in words_block, the loop has no way out.
+fn all_in(t: &[u8], a: u8, z: u8, b: u8, y: u8) -> bool
+    ensures { λ r. ⌜ r ≡ all (Class.Two a z b y) (now (t .entry)) ⌝ }
+{
+    let mut ok = true;
+    let mut j = 0;
+    while j < t.len() {
+        ok = ok & is_in(Class::Two(a, z, b, y), t[j]);
+        j += 1;
+    }
+    ok
+}
+
+// From lo to hi bytes from a to z or from b to y: by blocks of eight bytes, then one by one.
 fn run_two(s: &[u8], r: Scan, lo: usize, hi: usize, a: u8, z: u8, b: u8, y: u8) -> Scan
     ensures { λ q. ⌜ q ≡ scan (runG (Class.Two a z b y) lo hi) (now (s .entry)) r ⌝ }
 {
@@ -97,32 +111,82 @@ fn run_two(s: &[u8], r: Scan, lo: usize, hi: usize, a: u8, z: u8, b: u8, y: u8) 
         return r;
     }
     let at = r.next;
-    let i = reach(s, at, hi, a, z, b, y);
+    let mut i = at;
+    let mut left = hi;
+    while 8 <= left {
+        if s.len() < 8 {
+            break;
+        }
+        if s.len() - 8 < i {
+            break;
+        }
+        if !all_in(&s[i..i + 8], a, z, b, y) {
+            break;
+        }
+        i += 8;
+        left -= 8;
+    }
+    let j = reach(s, i, left, a, z, b, y);
     Scan {
-        next: i,
-        ok: lo <= i - at,
+        next: j,
+        ok: lo <= j - at,
     }
 }
 
-// From lo to hi bytes of a class: a function for each class, as for one byte.
-pub fn letters(s: &[u8], r: Scan, lo: usize, hi: usize) -> Scan
-    ensures { λ q. ⌜ q ≡ scan (runG Class.Letter lo hi) (now (s .entry)) r ⌝ }
+// Whether the k bytes from `at` on are there and each is from a to z.
+fn all_there(s: &[u8], at: usize, k: usize, a: u8, z: u8) -> bool
+    ensures { λ b. ⌜ Whole (Class.Two a z a z) k (now (s .entry)) at b ⌝ }
 {
-    run_two(s, r, lo, hi, b'A', b'Z', b'A', b'Z')
+    if s.len() < k {
+        return false;
+    }
+    if s.len() - k < at {
+        return false;
+    }
+    all_in(&s[at..at + k], a, z, a, z)
 }
 
-pub fn digits(s: &[u8], r: Scan, lo: usize, hi: usize) -> Scan
-    ensures { λ q. ⌜ q ≡ scan (runG Class.Digit lo hi) (now (s .entry)) r ⌝ }
+// Exactly k bytes from a to z. Nearly always they are there, so all are looked at together; only if not, one by one, and
+// then it is plain that the run is not whole.
+fn exactly(s: &[u8], r: Scan, k: usize, a: u8, z: u8) -> Scan
+    ensures { λ q. ⌜ q ≡ scan (runG (Class.Two a z a z) k k) (now (s .entry)) r ⌝ }
 {
-    run_two(s, r, lo, hi, b'0', b'9', b'0', b'9')
+    if !r.ok {
+        return r;
+    }
+    let at = r.next;
+    if all_there(s, at, k, a, z) {
+        return Scan {
+            next: at + k,
+            ok: true,
+        };
+    }
+    Scan {
+        next: reach(s, at, k, a, z, a, z),
+        ok: k == 0,
+    }
 }
 
-pub fn octals(s: &[u8], r: Scan, lo: usize, hi: usize) -> Scan
-    ensures { λ q. ⌜ q ≡ scan (runG Class.Octal lo hi) (now (s .entry)) r ⌝ }
+// Exactly k bytes of a class: a function for each class, as for one byte.
+pub fn letters(s: &[u8], r: Scan, k: usize) -> Scan
+    ensures { λ q. ⌜ q ≡ scan (runG Class.Letter k k) (now (s .entry)) r ⌝ }
 {
-    run_two(s, r, lo, hi, b'0', b'7', b'0', b'7')
+    exactly(s, r, k, b'A', b'Z')
 }
 
+pub fn digits(s: &[u8], r: Scan, k: usize) -> Scan
+    ensures { λ q. ⌜ q ≡ scan (runG Class.Digit k k) (now (s .entry)) r ⌝ }
+{
+    exactly(s, r, k, b'0', b'9')
+}
+
+pub fn octals(s: &[u8], r: Scan, k: usize) -> Scan
+    ensures { λ q. ⌜ q ≡ scan (runG Class.Octal k k) (now (s .entry)) r ⌝ }
+{
+    exactly(s, r, k, b'0', b'7')
+}
+
+// From lo to hi letters or digits.
 pub fn alnums(s: &[u8], r: Scan, lo: usize, hi: usize) -> Scan
     ensures { λ q. ⌜ q ≡ scan (runG Class.Alnum lo hi) (now (s .entry)) r ⌝ }
 {

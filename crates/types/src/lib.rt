@@ -228,13 +228,13 @@ fn cpl(s: &[u8]) -> Scanned
     let e1 = f.end;
     let mut plan = f.plan;
     let e2 = scan::byte(s, e1, b'-');
-    let e3 = scan::letters(s, e2, 4, 4);
+    let e3 = scan::letters(s, e2, 4);
     let x = fields::field14(s, scan::byte(s, e3, b'-'));
     let e4 = x.end;
     let r = fields::field15(s, scan::byte(s, e4, b'-'));
     let e5 = r.end;
     let e6 = scan::byte(s, e5, b'-');
-    let e7 = scan::letters(s, e6, 4, 4);
+    let e7 = scan::letters(s, e6, 4);
     let o = fields::field18(s, scan::byte(s, e7, b'-'));
     let e8 = o.end;
     let end = scan::byte(s, e8, b')');
@@ -287,11 +287,11 @@ fn est(s: &[u8]) -> Scanned
     let i = fields::field07(s, scan::byte(s, e, b'-'));
     let e1 = i.end;
     let e2 = scan::byte(s, e1, b'-');
-    let e3 = scan::letters(s, e2, 4, 4);
+    let e3 = scan::letters(s, e2, 4);
     let x = fields::field14(s, scan::byte(s, e3, b'-'));
     let e4 = x.end;
     let e5 = scan::byte(s, e4, b'-');
-    let e6 = scan::letters(s, e5, 4, 4);
+    let e6 = scan::letters(s, e5, 4);
     let end = scan::byte(s, e6, b')');
     let mut plan = changes::no_plan();
     plan.departure = scan::between(e2, e3);
@@ -339,7 +339,7 @@ fn chg(s: &[u8]) -> Scanned
     let d = fields::field13o(s, scan::byte(s, e2, b'-'));
     let e3 = d.end;
     let e4 = scan::byte(s, e3, b'-');
-    let e5 = scan::letters(s, e4, 4, 4);
+    let e5 = scan::letters(s, e4, 4);
     let c = changes::changed(s, scan::byte(s, e5, b'-'));
     let e6 = c.end;
     let end = scan::byte(s, e6, b')');
@@ -382,7 +382,7 @@ fn cnl(s: &[u8]) -> Scanned
     let d = fields::field13o(s, scan::byte(s, e2, b'-'));
     let e3 = d.end;
     let e4 = scan::byte(s, e3, b'-');
-    let e5 = scan::letters(s, e4, 4, 4);
+    let e5 = scan::letters(s, e4, 4);
     let o = fields::field18(s, scan::byte(s, e5, b'-'));
     let e6 = o.end;
     let end = scan::byte(s, e6, b')');
@@ -422,9 +422,9 @@ fn rti(s: &[u8]) -> Scanned
     let i = fields::field07(s, scan::byte(s, e, b'-'));
     let e1 = i.end;
     let e2 = scan::byte(s, e1, b'-');
-    let e3 = scan::letters(s, e2, 4, 4);
+    let e3 = scan::letters(s, e2, 4);
     let e4 = scan::byte(s, e3, b'-');
-    let e5 = scan::letters(s, e4, 4, 4);
+    let e5 = scan::letters(s, e4, 4);
     let e6 = scan::byte(s, e5, b'-');
     let e7 = scan::words(s, e6, 20);
     let e8 = scan::byte(s, e7, b'-');
@@ -464,9 +464,9 @@ fn rta(s: &[u8]) -> Scanned
     let e1 = scan::byte(s, e, b'-');
     let e2 = scan::alnums(s, e1, 2, 7);
     let e3 = scan::byte(s, e2, b'-');
-    let e4 = scan::letters(s, e3, 4, 4);
+    let e4 = scan::letters(s, e3, 4);
     let e5 = scan::byte(s, e4, b'-');
-    let e6 = scan::letters(s, e5, 4, 4);
+    let e6 = scan::letters(s, e5, 4);
     let e7 = scan::byte(s, e6, b'-');
     let e8 = scan::words(s, e7, 20);
     let end = scan::byte(s, e8, b')');
@@ -548,7 +548,7 @@ fn lrm(s: &[u8]) -> Scanned
     let reference = h.reference;
     let e1 = scan::byte(s, e, b'-');
     let e2 = scan::lit(s, e1, b"RMK/");
-    let e3 = scan::digits(s, e2, 2, 2);
+    let e3 = scan::digits(s, e2, 2);
     let end = scan::byte(s, e3, b')');
     let reason = scan::between(e2, e3);
     Scanned {

@@ -1,34 +1,27 @@
-use mathlib.Core.Path.{ap, _∙_}
 use borrow.Author.Needs.{needs}
-use borrow.Author.Tests.{not-true}
+use mathlib.Core.Path.{refl, ap, _∙_}
+use borrow.Author.Tests.{not-true, not-false}
+use Rattle.scan.specs.Texts.{_⨾_, byte, opt}
 use Rattle.fields.specs.Names.{amended}
 use Rattle.fields.specs.declared.Found15.{Found15}
 use Rattle.fields.specs.Fields.{g15}
 use Rattle.changes.specs.Changes.{from16, from15}
-use Rattle.changes.specs.Found.{found22-stays}
-use Rattle.changes.specs.Ascend.{ascend, key15, with15, is15, adds15}
+use Rattle.changes.specs.Ascend.{ascend, number-there, number-past, number-stop, key15, with15, is15, adds15}
+use Rattle.changes.specs.Keys.{rest15, good-15, good-from16, apart-15}
 use Rattle.changes.proofs.from15.Statement.{statement}
 use Rattle.changes.proofs.from15.Tie as tie
 
-returns-2 : tie.Need-returns-2
-unfolding from15
-returns-2 c =
-    let f = is15 _ _ _ _ (c .before .before .before .before .before .before .before .before .before .before .before .before .before .lit .ensures) (c .before .before .before .before .before .before .before .before .before .before .before .before .field15 .ensures) in
-    ascend key15 (g15 amended) from16 _ _ (with15 (c .before .before .before .before .before .before .before .before .before .before .before .before .field15 .result)) (adds15 _ _ _ f) _ _ _ _ _ _ _ (ap (λ (x : Found15). x .end) f) (c .before .before .before .before .before .before .before .before .before .before .byte .ensures) (c .before .before .before .before .before .before .before .before .before .nothing2 .ensures) (c .before .before .before .before .before .before .before .before .from16 .ensures) (c .before .before .before .before .before .before .before .either22 .ensures) (c .before .from162 .ensures) (c .either222 .ensures)
-
 pub from15-spec : {M : Type 1} → statement M
+unfolding from15
 from15-spec =
     tie.close
     (tie.spec
-    (λ c κs. tt)
-    (λ c. c .nothing .ensures ∙ found22-stays from15 _ _ (search not-true))
     (λ c. search needs)
     (λ c κs. tt)
     (λ c κs. tt)
+    (λ c. number-past key15 rest15 from16 _ _ _ (c .before .before .before .before .before .before .before .lit .ensures) (not-true _ (c .before .before .before .before .before .if1 .taken)) _ (c .before .before .before .before .from16 .ensures) (c .if2 .taken))
+    (λ c κs. tt)
+    (λ c. number-stop key15 rest15 from16 _ _ _ (c .before .before .before .before .before .before .before .before .lit .ensures) (not-true _ (c .before .before .before .before .before .before .if1 .taken)) _ _ (c .before .before .before .before .before .from16 .ensures) (c .before .if2 .left) (c .nothing .ensures))
     (λ c κs. tt)
     (λ c κs. tt)
-    (λ c κs. tt)
-    (λ c κs. tt)
-    (λ c κs. tt)
-    (λ c κs. tt)
-    returns-2)
+    (λ c. let f = is15 _ _ _ _ (c .before .before .before .before .before .before .before .before .before .before .lit .ensures) (c .before .before .before .before .before .before .before .field15 .ensures) in ascend key15 (g15 amended) (opt (byte 45 ⨾ from16)) _ _ (with15 (c .before .before .before .before .before .before .before .field15 .result)) (adds15 _ _ _ f) _ _ (ap (λ (x : Found15). x .end) f) (c .before .before .before .before .before .after15 .ensures) ∙ number-there key15 rest15 from16 _ _ _ (c .before .before .before .before .before .before .before .before .before .before .lit .ensures) good-15 good-from16 apart-15 refl (not-false _ (c .before .before .before .before .before .before .before .before .if1 .left))))

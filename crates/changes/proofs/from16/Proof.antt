@@ -1,34 +1,27 @@
-use mathlib.Core.Path.{ap, _∙_}
 use borrow.Author.Needs.{needs}
-use borrow.Author.Tests.{not-true}
+use mathlib.Core.Path.{refl, ap, _∙_}
+use borrow.Author.Tests.{not-true, not-false}
+use Rattle.scan.specs.Texts.{_⨾_, byte, opt}
 use Rattle.fields.specs.Names.{amended}
 use Rattle.fields.specs.declared.Found16.{Found16}
 use Rattle.fields.specs.Fields.{g16}
 use Rattle.changes.specs.Changes.{from18, from16}
-use Rattle.changes.specs.Found.{found22-stays}
-use Rattle.changes.specs.Ascend.{ascend, key16, with16, is16, adds16}
+use Rattle.changes.specs.Ascend.{ascend, number-there, number-past, number-stop, key16, with16, is16, adds16}
+use Rattle.changes.specs.Keys.{rest16, good-16, good-from18, apart-16}
 use Rattle.changes.proofs.from16.Statement.{statement}
 use Rattle.changes.proofs.from16.Tie as tie
 
-returns-2 : tie.Need-returns-2
-unfolding from16
-returns-2 c =
-    let f = is16 _ _ _ _ (c .before .before .before .before .before .before .before .before .before .before .before .before .before .before .lit .ensures) (c .before .before .before .before .before .before .before .before .before .before .before .before .before .field16 .ensures) in
-    ascend key16 (g16 amended) from18 _ _ (with16 (c .before .before .before .before .before .before .before .before .before .before .before .before .before .field16 .result)) (adds16 _ _ _ f) _ _ _ _ _ _ _ (ap (λ (x : Found16). x .end) f) (c .before .before .before .before .before .before .before .before .before .before .before .byte .ensures) (c .before .before .before .before .before .before .before .before .before .before .nothing2 .ensures) (c .before .before .before .before .before .before .before .before .before .from18 .ensures) (c .before .before .before .before .before .before .before .before .either22 .ensures) (c .before .from182 .ensures) (c .either222 .ensures)
-
 pub from16-spec : {M : Type 1} → statement M
+unfolding from16
 from16-spec =
     tie.close
     (tie.spec
-    (λ c κs. tt)
-    (λ c. c .nothing .ensures ∙ found22-stays from16 _ _ (search not-true))
     (λ c. search needs)
     (λ c κs. tt)
     (λ c κs. tt)
+    (λ c. number-past key16 rest16 from18 _ _ _ (c .before .before .before .before .before .before .before .lit .ensures) (not-true _ (c .before .before .before .before .before .if1 .taken)) _ (c .before .before .before .before .from18 .ensures) (c .if2 .taken))
+    (λ c κs. tt)
+    (λ c. number-stop key16 rest16 from18 _ _ _ (c .before .before .before .before .before .before .before .before .lit .ensures) (not-true _ (c .before .before .before .before .before .before .if1 .taken)) _ _ (c .before .before .before .before .before .from18 .ensures) (c .before .if2 .left) (c .nothing .ensures))
     (λ c κs. tt)
     (λ c κs. tt)
-    (λ c κs. tt)
-    (λ c κs. tt)
-    (λ c κs. tt)
-    (λ c κs. tt)
-    returns-2)
+    (λ c. let f = is16 _ _ _ _ (c .before .before .before .before .before .before .before .before .before .before .before .lit .ensures) (c .before .before .before .before .before .before .before .before .field16 .ensures) in ascend key16 (g16 amended) (opt (byte 45 ⨾ from18)) _ _ (with16 (c .before .before .before .before .before .before .before .before .field16 .result)) (adds16 _ _ _ f) _ _ (ap (λ (x : Found16). x .end) f) (c .before .before .before .before .before .before .after16 .ensures) ∙ number-there key16 rest16 from18 _ _ _ (c .before .before .before .before .before .before .before .before .before .before .before .lit .ensures) good-16 good-from18 apart-16 refl (not-false _ (c .before .before .before .before .before .before .before .before .before .if1 .left))))

@@ -1,4 +1,8 @@
+use mathlib.Core.Path.{_∙_}
+use borrow.Author.Tests.{not-true}
+use Rattle.scan.specs.Picks.{so}
 use Rattle.fields.specs.Fields.{bearingFrom}
+use Rattle.fields.specs.Chosen.{no-name}
 use Rattle.fields.proofs.bearing_from.Statement.{statement}
 use Rattle.fields.proofs.bearing_from.Tie as tie
 
@@ -8,6 +12,7 @@ bearing-from-spec =
     tie.close
     (tie.spec
     (λ c κs. tt)
+    (λ c. c .before .before .alnums .ensures ∙ no-name _ _ _ (so _ _ _ (c .before .before .alnums .ensures) (not-true _ (c .if1 .taken))))
     (λ c κs. tt)
     (λ c κs. tt)
-    (λ c. rw (c .digits .ensures, c .before .bearing .ensures, c .before .before .alnums .ensures)))
+    (λ c. rw (c .digits .ensures, c .before .bearing .ensures, c .before .before .before .before .alnums .ensures)))

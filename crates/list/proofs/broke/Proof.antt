@@ -5,7 +5,7 @@ use mathlib.Core.List.{List, _++_}
 use Prim.Native.Nat.{ℕ}
 use native.Mathlib.Omega.{arith}
 use Rattle.list.specs.Listing.{brokeOff}
-use Rattle.list.proofs.Splicing.{then, front, behind}
+use Rattle.splice.specs.Splicing.{then, front, behind}
 use Rattle.list.proofs.Progressing.{broken-off}
 use Rattle.list.proofs.broke.Statement.{statement}
 use Rattle.list.proofs.broke.Tie as tie

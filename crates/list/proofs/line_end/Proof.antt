@@ -5,8 +5,8 @@ use mathlib.Core.Bool.{true}
 use Prim.Native.Nat.{_≤_, _-_}
 use native.Mathlib.Omega.{arith}
 use lib.ListN.{length, take}
-use Rattle.list.specs.Splices.{feedless}
-use Rattle.list.proofs.Splicing.{feedless-more}
+use Rattle.list.specs.Feeds.{feedless}
+use Rattle.list.proofs.Feeding.{feedless-more}
 use Rattle.list.proofs.line_end.Statement.{statement}
 use Rattle.list.proofs.line_end.Tie as tie
 

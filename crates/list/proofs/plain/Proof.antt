@@ -8,8 +8,8 @@ use Prim.Native.Nat.{_≤_, _-_}
 use native.Mathlib.Omega.{arith}
 use lib.ListN.{length, take}
 use lib.Seq.{take-all}
-use Rattle.list.specs.Splices.{feedless}
-use Rattle.list.proofs.Splicing.{feedless-more}
+use Rattle.list.specs.Feeds.{feedless}
+use Rattle.list.proofs.Feeding.{feedless-more}
 use Rattle.list.proofs.plain.Statement.{statement}
 use Rattle.list.proofs.plain.Tie as tie
 

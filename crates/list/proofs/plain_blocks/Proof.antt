@@ -6,8 +6,8 @@ use mathlib.Core.Bool.{true}
 use Prim.Native.Nat.{_≤_, _-_}
 use native.Mathlib.Omega.{arith}
 use lib.ListN.{length, take}
-use Rattle.list.specs.Splices.{feedless}
-use Rattle.list.proofs.Splicing.{feedless-block}
+use Rattle.list.specs.Feeds.{feedless}
+use Rattle.list.proofs.Feeding.{feedless-block}
 use Rattle.list.proofs.plain_blocks.Statement.{statement}
 use Rattle.list.proofs.plain_blocks.Tie as tie
 

@@ -1,7 +1,7 @@
 -- `list::put_labelled` meets its contract. Assumes nothing.
 use borrow.Author.Needs.{needs}
 use native.Mathlib.Omega.{arith}
-use Rattle.list.proofs.Splicing.{then}
+use Rattle.splice.specs.Splicing.{then}
 use Rattle.list.proofs.put_labelled.Statement.{statement}
 use Rattle.list.proofs.put_labelled.Tie as tie
 

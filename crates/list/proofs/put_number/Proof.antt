@@ -8,13 +8,13 @@ use native.Mathlib.Omega.{arith}
 use lib.ListN.{length, take, drop, set, length-set}
 use Rattle.list.specs.Numbers.{decimal}
 use Rattle.list.proofs.Decimals.{digits-more, digits-last, another, twenty}
-use Rattle.list.proofs.Splicing.{same-bytes}
+use Rattle.splice.specs.Splicing.{same-bytes}
 use Rattle.list.proofs.put_number.Statement.{statement}
 use Rattle.list.proofs.put_number.Tie as tie
 use Rattle.list.proofs.put_number.Reads as reads
 use Rattle.list.proofs.put_number.Lts as lts
 use Rattle.list.proofs.digit.Reads as digit-reads
-use Rattle.list.proofs.put.Reads as put-reads
+use Rattle.splice.proofs.put.Reads as put-reads
 
 abbrev Inv-loop : tie.InvT-loop
 Inv-loop d at n digits₀ i₀ rest₀ digits i rest =

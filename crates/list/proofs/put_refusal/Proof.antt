@@ -1,7 +1,7 @@
 -- `list::put_refusal` meets its contract. Assumes nothing.
 use borrow.Author.Needs.{needs}
 use native.Mathlib.Omega.{arith}
-use Rattle.list.proofs.Splicing.{then}
+use Rattle.splice.specs.Splicing.{then}
 use Rattle.list.proofs.put_refusal.Statement.{statement}
 use Rattle.list.proofs.put_refusal.Tie as tie
 

@@ -2,7 +2,7 @@
 use borrow.Author.Needs.{needs}
 use native.Mathlib.Omega.{arith}
 use Rattle.list.specs.Listing.{totals}
-use Rattle.list.proofs.Splicing.{then}
+use Rattle.splice.specs.Splicing.{then}
 use Rattle.list.proofs.put_totals.Statement.{statement}
 use Rattle.list.proofs.put_totals.Tie as tie
 

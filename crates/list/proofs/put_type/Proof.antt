@@ -3,7 +3,7 @@ use borrow.Author.Needs.{needs}
 use Prim.Native.Nat.{_+_, _≤_}
 use native.Mathlib.Omega.{arith}
 use lib.ListN.{drop, length-take}
-use Rattle.list.proofs.Splicing.{then, same-bytes}
+use Rattle.splice.specs.Splicing.{then, same-bytes}
 use Rattle.list.proofs.Lines.{three}
 use Rattle.list.proofs.put_type.Statement.{statement}
 use Rattle.list.proofs.put_type.Tie as tie

@@ -5,7 +5,7 @@ use native.Mathlib.Omega.{arith}
 use Rattle.message.specs.Reader.{verdict}
 use Rattle.message.specs.declared.Verdict.the-variants.{Read, Refused}
 use Rattle.list.specs.Listing.{ifRead}
-use Rattle.list.proofs.Splicing.{then, same-bytes}
+use Rattle.splice.specs.Splicing.{then, same-bytes}
 use Rattle.list.proofs.Lines.{line-read, line-refused}
 use Rattle.list.proofs.tell.Statement.{statement}
 use Rattle.list.proofs.tell.Tie as tie

@@ -5,4 +5,8 @@ use Rattle.scan.proofs.octals.Statement.{statement}
 use Rattle.scan.proofs.octals.Tie as tie
 
 pub octals-spec : {M : Type 1} → statement M
-octals-spec = tie.close (tie.spec (λ c κs. tt) (λ c. c .run-two .ensures ∙ scan-alike (Two 48 55 48 55) Octal (λ x. twice 48 55 x) _ _ _ _))
+octals-spec =
+    tie.close
+    (tie.spec
+    (λ c κs. tt)
+    (λ c. c .exactly .ensures ∙ scan-alike (Two 48 55 48 55) Octal (twice 48 55) _ _ _ _))

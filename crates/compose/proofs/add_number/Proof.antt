@@ -1,0 +1,18 @@
+-- `compose::add_number` meets its contract.
+use borrow.Author.Needs.{needs}
+use mathlib.Core.Path.{sym, ap, _∙_}
+use mathlib.Core.List.{[], _∷_, _++_, append-nil}
+use native.Mathlib.Omega.{arith}
+use Rattle.message.specs.Reading.{cut}
+use Rattle.compose.specs.Laying.{then, alike, textNumber}
+use Rattle.compose.proofs.add_number.Statement.{statement}
+use Rattle.compose.proofs.add_number.Tie as tie
+
+returns : tie.Need-returns
+returns c =
+    let a = c .before .before .before .before .before .before .before .before .before .before .before .before .before .before .before .before .before .before .before .args in
+    alike (rw (append-nil (cut (a .d .now) (a .c)), append-nil (textNumber (a .d .now) (a .a) (a .b) (a .c))))
+    (then (c .before .before .before .before .before .before .before .before .before .before .before .before .before .before .before .add-part .ensures) (then (c .before .before .before .before .before .before .before .before .before .before .add .ensures (a .d .now)) (then (c .before .before .before .before .before .before .add-part2 .ensures) (c .before .before .add-part3 .ensures))))
+
+pub add-number-spec : {M : Type 1} → statement M
+add-number-spec = tie.close (tie.spec (λ c κs. search needs) (λ c. search needs) (λ c κs. search needs) (λ c κs. search needs) (λ c κs. search needs) (λ c. search needs) returns)

@@ -1,0 +1,5 @@
+pub mod Listed
+pub mod Layout
+pub mod Order
+pub mod Laying
+pub mod Composed

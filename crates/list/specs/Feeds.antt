@@ -1,0 +1,25 @@
+-- What the clauses on lines cite. Assumes nothing.
+use Prim.Native.Nat.{ℕ, _+_, _≤_, _<_}
+use mathlib.Core.Path.{_≡_}
+use mathlib.Core.Bool.{Bool, true, false, cond}
+use mathlib.Core.List.{List, [], _∷_, _++_}
+use lib.ListN.{length, take, drop, getD}
+use lib.Dec.{eqb}
+use Rattle.splice.specs.Splice.{Spliced}
+
+-- whether no byte is a line feed
+unfoldable pub feedless : List ℕ → Bool
+feedless [] = true
+feedless (b ∷ bs) = cond (eqb b 10) false (feedless bs)
+
+-- r is where the first line feed of s stands, or the length of s where it has none
+pub record LineEnd (s : List ℕ) (r : ℕ) : Type 0 where
+  pub inside : r ≤ length s
+  pub before : feedless (take r s) ≡ true
+  pub found : r < length s → getD s r 0 ≡ 10
+
+-- a line s of the report was written, and `read` says whether its text is read
+pub record Tells (s : List ℕ) (value at : ℕ) (d e : List ℕ) (next read : ℕ) : Type 0 where
+  pub wrote : Spliced at s d e next
+  pub room : next ≤ at + 71
+  pub told : read ≡ value
