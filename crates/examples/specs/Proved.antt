@@ -1,4 +1,4 @@
--- The table holds: antt computes the verdict of each text.
+-- The table holds: antt computes the verdict of each text and the standing of each number.
 use mathlib.Core.Path.{_≡_, refl, subst}
 use mathlib.Core.List.{List, [], _∷_}
 use Rattle.message.specs.declared.Verdict.{Verdict}
@@ -8,19 +8,28 @@ use Rattle.changes.specs.Changes.{from18, from16, from15, from13, from10, from0
 use Rattle.types.specs.Messages.{fpl, cpl, est, chg, cnl, rti, rta, rla, lam, lrm, message}
 use Rattle.message.specs.Reading.{hyphens}
 use Rattle.message.specs.Reader.{verdict, Ruled, verdict-right}
-use Rattle.examples.specs.Table.{Example, table, Holds}
+use Rattle.head.specs.Head.{standingAt, standing}
+use Rattle.examples.specs.Table.{Example, reads, stands, table, Holds1, Holds}
+
+abbrev Computes1 : Example → Type 0
+Computes1 (reads s v) = verdict s ≡ v
+Computes1 (stands h n k) = standing h n ≡ k
 
 abbrev Computes : List Example → Type 0
 Computes [] = Unit
-Computes (e ∷ es) = (verdict (e .text) ≡ e .verdict) × Computes es
+Computes (e ∷ es) = Computes1 e × Computes es
 
 computed : Computes table
-unfolding runAt runScan wordsAt wordsScan longer inNumbered in07 in08 counted in09 in10 hour minute timed in13 in13o level3 level4 levelled bearing bearingFrom degrees minutes pointed in14 after15 in15 alternates in16 inThree18 inFour18 in18 from18 from16 from15 from13 from10 from09 from08 inChanges inChanged fpl cpl est chg cnl rti rta rla lam lrm message hyphens verdict
-computed = (refl, (refl, (refl, (refl, (refl, (refl, tt))))))
+unfolding runAt runScan wordsAt wordsScan longer inNumbered in07 in08 counted in09 in10 hour minute timed in13 in13o level3 level4 levelled bearing bearingFrom degrees minutes pointed in14 after15 in15 alternates in16 inThree18 inFour18 in18 from18 from16 from15 from13 from10 from09 from08 inChanges inChanged fpl cpl est chg cnl rti rta rla lam lrm message hyphens verdict standingAt
+computed = (refl, (refl, (refl, (refl, (refl, (refl, (refl, (refl, (refl, (refl, (refl, tt)))))))))))
+
+by-computing1 : (e : Example) → Computes1 e → Holds1 e
+by-computing1 (reads s v) c = subst (Ruled s) c (verdict-right s)
+by-computing1 (stands h n k) c = c
 
 by-computing : (es : List Example) → Computes es → Holds es
 by-computing [] c = tt
-by-computing (e ∷ es) c = (subst (Ruled (e .text)) (c .0) (verdict-right (e .text)), by-computing es (c .1))
+by-computing (e ∷ es) c = (by-computing1 e (c .0), by-computing es (c .1))
 
 pub table-holds : Holds table
 table-holds = by-computing table computed

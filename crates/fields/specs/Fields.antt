@@ -159,6 +159,10 @@ alternates o = opt (byte 32 ⨾ part (o + n.alternate) (run Letter 4 4) ⨾ opt 
 unfoldable pub in16 : ℕ → G
 in16 o = part (o + n.destination) (run Letter 4 4) ⨾ opt (part (o + n.elapsed) (run Digit 2 2 ⨾ minute)) ⨾ alternates o
 
+-- the same from its fifth byte
+unfoldable pub rest16 : ℕ → G
+rest16 o = opt (part (o + n.elapsed) (run Digit 2 2 ⨾ minute)) ⨾ alternates o
+
 abbrev pub g16 : ℕ → G
 g16 o = field ((o + n.destination) ∷ (o + n.elapsed) ∷ (o + n.alternate) ∷ (o + n.alternate2) ∷ []) (in16 o)
 

@@ -5,7 +5,7 @@ ghost use Rattle.scan.specs.declared.Class.the-variants.{Alnum};
 ghost use Rattle.scan.specs.Texts.{one as oneG};
 ghost use Prim.Native.Nat.{_≤_};
 ghost use Rattle.scan.specs.Scanner.{scan as scanG};
-ghost use Rattle.fields.specs.Fields.{counted as countedG, hour as hourG, minute as minuteG, timed, levelled, bearing as bearingG, bearingFrom, degrees as degreesG, minutes as minutesG, pointed};
+ghost use Rattle.fields.specs.Fields.{counted as countedG, hour as hourG, minute as minuteG, timed, levelled, bearing as bearingG, bearingFrom, degrees as degreesG, minutes as minutesG, pointed, rest16 as rest16G};
 ghost use Rattle.fields.specs.Found.{foundNumber, found07, found08, found09, found10, found13, found13o, found14, foundRouted, foundAfter15, foundSped, found15, foundAlternates, found16, found18};
 use scan::Scan;
 use scan::Span;
@@ -187,7 +187,7 @@ fn minute(s: &[u8], r: Scan) -> Scan
 }
 
 // 0000 to 2359.
-fn time(s: &[u8], r: Scan) -> Scan
+pub fn time(s: &[u8], r: Scan) -> Scan
     ensures { λ q. ⌜ q ≡ scanG timed (now (s .entry)) r ⌝ }
 {
     minute(s, hour(s, r))
@@ -439,6 +439,16 @@ fn alternates(s: &[u8], r: Scan) -> Found16
         alternate: scan::either(r, e, scan::none(), scan::between(a, b)),
         alternate2: scan::either(r, e, scan::none(), two),
     }
+}
+
+// Field 16 from its fifth byte: an elapsed time or none, and the alternates.
+pub fn rest16(s: &[u8], r: Scan) -> Scan
+    ensures { λ q. ⌜ q ≡ scanG (rest16G 0) (now (s .entry)) r ⌝ }
+{
+    let h = scan::digits(s, r, 2);
+    let b = minute(s, h);
+    let c = alternates(s, scan::longer(r, b));
+    c.end
 }
 
 pub fn field16(s: &[u8], r: Scan) -> Found16

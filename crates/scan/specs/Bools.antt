@@ -1,7 +1,10 @@
--- Laws of Bool that every crate's proofs use.
-use mathlib.Core.Path.{_≡_, refl, sym}
-use mathlib.Core.Logic.{_⊎_, inl, inr}
+-- Laws of Bool that every crate's proofs use, and what it is that a test decides.
+use mathlib.Core.Path.{_≡_, refl, sym, _∙_}
+use mathlib.Core.Logic.{_⊎_, inl, inr, ⊎-elim}
 use mathlib.Core.Bool.{Bool, true, false, _&&_, _||_, false≢true}
+use Prim.Native.Nat.{ℕ}
+use lib.Dec.{eqb}
+use borrow.Author.Tests.{eqb-true, eq-eqb}
 
 pub and-l : (a b : Bool) → a && b ≡ true → a ≡ true
 and-l true b e = refl
@@ -33,3 +36,23 @@ neither false b e = (refl, e)
 pub known : (b : Bool) → (b ≡ true) ⊎ (b ≡ false)
 known true = inl refl
 known false = inr refl
+
+-- a test says whether something holds
+pub record Decides (b : Bool) (P : Type 0) : Type 0 where
+  pub yes : b ≡ true → P
+  pub no : P → b ≡ true
+
+pub decides-and : {b c : Bool} {P Q : Type 0} → Decides b P → Decides c Q → Decides (b && c) (P × Q)
+decides-and {b} {c} x y = record { yes = λ e. (x .yes (and-l b c e), y .yes (and-r b c e)); no = λ p. both b c (x .no (p .0)) (y .no (p .1)) }
+
+pub decides-or : {b c : Bool} {P Q : Type 0} → Decides b P → Decides c Q → Decides (b || c) (P ⊎ Q)
+decides-or {b} {c} x y = record { yes = λ e. ⊎-elim (λ h. inl (x .yes h)) (λ h. inr (y .yes h)) (or-split b c e); no = λ p. ⊎-elim (λ h. or-l b c (x .no h)) (λ h. or-r b c (y .no h)) p }
+
+pub decides-as : {b : Bool} {P Q : Type 0} → (P → Q) → (Q → P) → Decides b P → Decides b Q
+decides-as f g x = record { yes = λ e. f (x .yes e); no = λ q. x .no (g q) }
+
+pub decides-by : {b c : Bool} {P : Type 0} → b ≡ c → Decides c P → Decides b P
+decides-by e x = record { yes = λ h. x .yes (sym e ∙ h); no = λ p. e ∙ x .no p }
+
+pub equals : (m n : ℕ) → Decides (eqb m n) (m ≡ n)
+equals m n = record { yes = eqb-true m n; no = eq-eqb m n }

@@ -6,7 +6,7 @@ use mathlib.Core.List.{List, [], _∷_, _++_}
 use Prim.Native.Nat.{ℕ}
 use lib.Dec.{eqb}
 use borrow.Author.Tests.{eqb-true, eq-eqb}
-use Rattle.scan.specs.Bools.{and-l, and-r, both, or-split, known}
+use Rattle.scan.specs.Bools.{and-l, and-r, both, or-split, known, Decides, decides-and, decides-as, decides-by, equals}
 use Rattle.scan.specs.declared.Span.{Span}
 use Rattle.scan.specs.Grammar.{Part, look}
 use Rattle.scan.specs.Scanner.{among}
@@ -28,23 +28,6 @@ use Rattle.message.specs.Reader.{one-record, derived-read}
 use Rattle.compose.specs.Listed.{numberParts, planParts, restParts, partsIn}
 use Rattle.compose.specs.Composed.{sizes}
 use Rattle.writer.specs.Writer.{partNames, listed, nameless, Alike}
-
--- a test says whether something holds
-pub record Decides (b : Bool) (P : Type 0) : Type 0 where
-  pub yes : b ≡ true → P
-  pub no : P → b ≡ true
-
-decides-and : {b c : Bool} {P Q : Type 0} → Decides b P → Decides c Q → Decides (b && c) (P × Q)
-decides-and {b} {c} x y = record { yes = λ e. (x .yes (and-l b c e), y .yes (and-r b c e)); no = λ p. both b c (x .no (p .0)) (y .no (p .1)) }
-
-decides-as : {b : Bool} {P Q : Type 0} → (P → Q) → (Q → P) → Decides b P → Decides b Q
-decides-as f g x = record { yes = λ e. f (x .yes e); no = λ q. x .no (g q) }
-
-equals : (m n : ℕ) → Decides (eqb m n) (m ≡ n)
-equals m n = record { yes = eqb-true m n; no = eq-eqb m n }
-
-pub decides-by : {b c : Bool} {P : Type 0} → b ≡ c → Decides c P → Decides b P
-decides-by e x = record { yes = λ h. x .yes (sym e ∙ h); no = λ p. e ∙ x .no p }
 
 -- THE VARIANTS AS NUMBERS
 

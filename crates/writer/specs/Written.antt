@@ -8,7 +8,6 @@ use native.Mathlib.Omega.{arith}
 use lib.ListN.{length, take, drop}
 use lib.Seq.{length-take-le, take-append-seam, drop-append-seam}
 use borrow.Author.Tests.{eqb-true}
-use Rattle.scan.specs.Bools.{or-split, known}
 use Rattle.scan.specs.declared.Span.{Span}
 use Rattle.scan.specs.Scanner.{among}
 use Rattle.scan.specs.Tests.{covers}
@@ -25,7 +24,8 @@ use Rattle.compose.specs.Listed.{spanOf, Inside}
 use Rattle.writer.specs.Writing.{contentOf, Writes, Wrote}
 use Rattle.writer.specs.Writer.{partNames, nameless, its-inside, text-of, text-short, text-alike, alike-text}
 use Rattle.compose.specs.Laying.{AllInside, Stands, Adds, start, opening, blocks, spans, join}
-use Rattle.writer.specs.Comparing.{Decides, Back}
+use Rattle.scan.specs.Bools.{or-split, known, Decides}
+use Rattle.writer.specs.Comparing.{Back}
 use Rattle.compose.specs.Composed.{composed, composed-is}
 
 -- the names in the order of the fields

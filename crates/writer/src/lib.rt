@@ -2,7 +2,8 @@
 // held against the record. So the rules are the reader's, and there is no second set of them.
 ghost use mathlib.Core.Path.{_≡_};
 ghost use mathlib.Core.Bool.{true};
-ghost use Rattle.writer.specs.Comparing.{Decides, kindCode, levelCode, formCode, evenly, Back};
+ghost use Rattle.scan.specs.Bools.{Decides};
+ghost use Rattle.writer.specs.Comparing.{kindCode, levelCode, formCode, evenly, Back};
 ghost use Rattle.writer.specs.Writer.{Alike};
 ghost use Rattle.compose.specs.Listed.{numberParts, planParts, restParts, partsIn};
 ghost use Rattle.writer.specs.Writing.{Wrote};

@@ -1,6 +1,7 @@
 -- `writer::alike` meets its contract.
 use borrow.Author.Needs.{needs}
-use Rattle.writer.specs.Comparing.{decides-by, lengths-same, records-alike}
+use Rattle.scan.specs.Bools.{decides-by}
+use Rattle.writer.specs.Comparing.{lengths-same, records-alike}
 use Rattle.writer.proofs.alike.Statement.{statement}
 use Rattle.writer.proofs.alike.Tie as tie
 

@@ -1,6 +1,7 @@
 -- `writer::same_level` meets its contract.
 use borrow.Author.Needs.{needs}
-use Rattle.writer.specs.Comparing.{decides-by, level-same}
+use Rattle.scan.specs.Bools.{decides-by}
+use Rattle.writer.specs.Comparing.{level-same}
 use Rattle.writer.proofs.same_level.Statement.{statement}
 use Rattle.writer.proofs.same_level.Tie as tie
 

@@ -1,0 +1,9 @@
+pub mod Padding
+pub mod Stretches
+pub mod Rules
+pub mod Ends
+pub mod Trimming
+pub mod Flight
+pub mod Records
+pub mod Checked
+pub mod Deciding
