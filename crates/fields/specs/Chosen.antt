@@ -1,20 +1,22 @@
 -- Which arm of a field the bytes at hand choose.
 use mathlib.Core.Path.{_≡_, refl, sym, ap, _∙_}
-use mathlib.Core.Bool.{Bool, true, false, not, _&&_}
+use mathlib.Core.Logic.{_⊎_, inl, inr}
+use mathlib.Core.Bool.{Bool, true, false, cond, not, _&&_, _||_}
 use mathlib.Core.List.{List, [], _∷_}
-use Prim.Native.Nat.{ℕ, _+_, _-_, _≤_, _<_}
+use Prim.Native.Nat.{ℕ, _+_, _-_, _≤_}
 use native.Mathlib.Omega.{arith}
-use borrow.Author.Tests.{lt-ltb, not-true}
-use Rattle.scan.specs.Bools.{and-l, and-r}
+use lib.Dec.{ltb}
+use borrow.Author.Tests.{lt-ltb, le-ltb, ltb-false, not-true}
+use Rattle.scan.specs.Bools.{and-l, and-r, known}
 use Rattle.scan.specs.declared.Scan.{Scan}
 use Rattle.scan.specs.declared.Class.{Class}
 use Rattle.scan.specs.declared.Class.the-variants.{Letter, Digit, Alnum, Byte, Range, Of}
 use Rattle.scan.specs.Grammar.{G, ranges, run, words, alt, part, none}
 use Rattle.scan.specs.Texts.{_⨾_, byte, one, lit}
-use Rattle.scan.specs.Scanner.{scan, among, occurs, spanBy, spot}
+use Rattle.scan.specs.Scanner.{scan, longer, among, occurs, spanBy, spot}
 use Rattle.scan.specs.Tests.{nullable, first, clear, apart, bytes, follow, some, good, fixed, heads, differ}
 use Rattle.scan.specs.Bounds.{scan-forth}
-use Rattle.scan.specs.Picks.{Same, same-trans, sunderLeaf, sunder, lies, within, it, in-seq, then, in-part, in-field, begins-stays, chosen, given-up, by-byte, not-byte, one-passed, one-missed, run-passed, run-longer, unbeaten, behind, beaten, stops}
+use Rattle.scan.specs.Picks.{Same, same-trans, sunderLeaf, sunder, lies, within, it, in-seq, then, in-part, in-field, begins-stays, chosen, given-up, by-byte, not-byte, one-passed, one-missed, run-passed, run-longer, unbeaten, stops}
 use Rattle.fields.specs.declared.Found15.{Found15}
 use Rattle.fields.specs.declared.Found18.{Found18}
 use Rattle.fields.specs.Names as n
@@ -39,12 +41,6 @@ northDegrees = alt (one (Range 48 56) ⨾ one Digit) (lit (57 ∷ 48 ∷ []))
 abbrev pub northMinutes : G
 northMinutes = alt (one (Range 48 56) ⨾ one Digit ⨾ minute) (lit (57 ∷ 48 ∷ 48 ∷ 48 ∷ []))
 
-abbrev bearings : G
-bearings = alt (bearingFrom 2) (alt (bearingFrom 3) (alt (bearingFrom 4) (bearingFrom 5)))
-
-abbrev otherPoints : G
-otherPoints = alt bearings (alt degrees minutes)
-
 -- the scan of x is whole, and neither letter nor digit follows
 abbrev pub ended : G → List ℕ → Scan → Bool
 ended x s r = scan x s r .ok && not (scan (one Alnum) s (scan x s r) .ok)
@@ -55,6 +51,60 @@ ended-whole x s r e = and-l (scan x s r .ok) (not (scan (one Alnum) s (scan x s 
 -- so no grammar of letters and digits goes on
 ended-stops : (x g : G) (s : List ℕ) (r : Scan) → ended x s r ≡ true → within (bytes g) (ranges Alnum) ≡ true → scan g s r .next ≤ scan x s r .next
 ended-stops x g s r e w = stops Alnum x g w s r (ended-whole x s r e) (not-true _ (and-r (scan x s r .ok) (not (scan (one Alnum) s (scan x s r) .ok)) e))
+
+-- x is an arm of g, and the other arms have letters and digits only
+pub data ArmOf : G → G → Type 0 where
+  itself : {x : G} → ArmOf x x
+  first-arm : {x a b : G} → ArmOf x a → within (bytes b) (ranges Alnum) ≡ true → ArmOf x (alt a b)
+  later-arm : {x a b : G} → ArmOf x b → within (bytes a) (ranges Alnum) ≡ true → ArmOf x (alt a b)
+
+-- q is the scan of one form of a point
+abbrev pub OfPoint : List ℕ → Scan → Scan → Type 0
+OfPoint s r q = (x : G) × ArmOf x pointed × (q ≡ scan x s r)
+
+pub name-arm : ArmOf (run Alnum 2 5) pointed
+unfolding pointed bearingFrom bearing degrees minutes minute within lies bytes
+name-arm = first-arm itself refl
+
+pub two-arm : ArmOf (bearingFrom 2) pointed
+unfolding pointed bearingFrom bearing degrees minutes minute within lies bytes
+two-arm = later-arm (first-arm (first-arm itself refl) refl) refl
+
+pub three-arm : ArmOf (bearingFrom 3) pointed
+unfolding pointed bearingFrom bearing degrees minutes minute within lies bytes
+three-arm = later-arm (first-arm (later-arm (first-arm itself refl) refl) refl) refl
+
+pub four-arm : ArmOf (bearingFrom 4) pointed
+unfolding pointed bearingFrom bearing degrees minutes minute within lies bytes
+four-arm = later-arm (first-arm (later-arm (later-arm (first-arm itself refl) refl) refl) refl) refl
+
+pub five-arm : ArmOf (bearingFrom 5) pointed
+unfolding pointed bearingFrom bearing degrees minutes minute within lies bytes
+five-arm = later-arm (first-arm (later-arm (later-arm (later-arm itself refl) refl) refl) refl) refl
+
+pub degrees-arm : ArmOf degrees pointed
+unfolding pointed bearingFrom bearing degrees minutes minute within lies bytes
+degrees-arm = later-arm (later-arm (first-arm itself refl) refl) refl
+
+pub minutes-arm : ArmOf minutes pointed
+unfolding pointed bearingFrom bearing degrees minutes minute within lies bytes
+minutes-arm = later-arm (later-arm (later-arm itself refl) refl) refl
+
+-- the later of two is whole and not behind
+longer-late : (p q : Scan) → q .ok ≡ true → p .next ≤ q .next → longer p q ≡ q
+unfolding longer
+longer-late p q o h = go (known (ltb (p .next) (q .next)))
+  where
+    any : (b : Bool) → b || true ≡ true
+    any true = refl
+    any false = refl
+
+    go : (ltb (p .next) (q .next) ≡ true) ⊎ (ltb (p .next) (q .next) ≡ false) → cond (ltb (p .next) (q .next)) q (cond (ltb (q .next) (p .next)) p (record { next = p .next; ok = p .ok || q .ok })) ≡ q
+    go (inl e) = rw e
+    go (inr e) =
+        let l : p .next ≡ q .next = omega (arith, ltb-false (p .next) (q .next) e) in
+        let w : p .ok || q .ok ≡ q .ok = rw o (any (p .ok)) in
+        rw (e, le-ltb (q .next) (p .next) (omega arith)) (λ i. record { next = l i; ok = w i })
 
 -- field 15 after its speed
 abbrev routed : G → ℕ → G
@@ -143,54 +193,23 @@ module _ (s : List ℕ) (r : Scan) where
 
   -- A POINT
 
+  -- an arm that has ended is what all arms together scan
+  arm-is : {x g : G} → ArmOf x g → ended x s r ≡ true → scan g s r ≡ scan x s r
+  arm-is itself e = refl
+  arm-is (first-arm {x} {a} {b} l w) e =
+      let p = arm-is l e in
+      let o : scan a s r .ok ≡ true = ap (λ (q : Scan). q .ok) p ∙ ended-whole x s r e in
+      unbeaten a b s r o (omega (arith, ap (λ (q : Scan). q .next) p, ended-stops x b s r e w)) .0 ∙ p
+  arm-is (later-arm {x} {a} {b} l w) e =
+      let p = arm-is l e in
+      let o : scan b s r .ok ≡ true = ap (λ (q : Scan). q .ok) p ∙ ended-whole x s r e in
+      longer-late (scan a s r) (scan b s r) o (omega (arith, ap (λ (q : Scan). q .next) p, ended-stops x a s r e w)) ∙ p
+
   pub point-name : ended (run Alnum 2 5) s r ≡ true → scan (run Alnum 2 5) s r ≡ scan pointed s r
-  unfolding pointed bearingFrom bearing degrees minutes minute within lies bytes
-  point-name e = sym (unbeaten (run Alnum 2 5) otherPoints s r (ended-whole (run Alnum 2 5) s r e) (ended-stops (run Alnum 2 5) otherPoints s r e refl) .0)
+  point-name e = sym (arm-is name-arm e)
 
-  module _ (x : G) (e : ended x s r ≡ true) where
-    point-is : Same bearings x s r → scan (run Alnum 2 5) s r .next < scan x s r .next → scan x s r ≡ scan pointed s r
-    unfolding pointed degrees minutes minute within lies bytes
-    point-is p h =
-        let o : scan bearings s r .ok ≡ true = ap (λ (q : Scan). q .ok) (p .0) ∙ ended-whole x s r e in
-        let n = ap (λ (q : Scan). q .next) (p .0) in
-        let a = unbeaten bearings (alt degrees minutes) s r o (omega (arith, n, ended-stops x (alt degrees minutes) s r e refl)) in
-        let b = behind (run Alnum 2 5) otherPoints s r (omega (arith, h, n, ap (λ (q : Scan). q .next) (a .0))) in
-        sym (b .0 ∙ a .0 ∙ p .0)
-
-    -- the first arm that has ended
-    last-arm : (g : G) → within (bytes g) (ranges Alnum) ≡ true → Same (alt x g) x s r
-    last-arm g w = unbeaten x g s r (ended-whole x s r e) (ended-stops x g s r e w)
-
-    -- an arm before it, which is not whole
-    next-arm : (y g : G) → within (bytes y) (ranges Alnum) ≡ true → scan y s r .ok ≡ false → Same g x s r → Same (alt y g) x s r
-    next-arm y g w o p = same-trans (alt y g) g x s r (beaten y g s r o (omega (arith, ap (λ (q : Scan). q .next) (p .0), ended-stops x y s r e w))) p
-
-  pub point-two : ended (bearingFrom 2) s r ≡ true → scan (run Alnum 2 5) s r .next < scan (bearingFrom 2) s r .next → scan (bearingFrom 2) s r ≡ scan pointed s r
-  unfolding bearingFrom bearing within lies bytes
-  point-two e h = point-is (bearingFrom 2) e (last-arm (bearingFrom 2) e (alt (bearingFrom 3) (alt (bearingFrom 4) (bearingFrom 5))) refl) h
-
-  pub point-three : ended (bearingFrom 3) s r ≡ true → scan (run Alnum 2 5) s r .next < scan (bearingFrom 3) s r .next → scan (bearingFrom 2) s r .ok ≡ false → scan (bearingFrom 3) s r ≡ scan pointed s r
-  unfolding bearingFrom bearing within lies bytes
-  point-three e h o =
-      point-is (bearingFrom 3) e
-      (next-arm (bearingFrom 3) e (bearingFrom 2) (alt (bearingFrom 3) (alt (bearingFrom 4) (bearingFrom 5))) refl o
-      (last-arm (bearingFrom 3) e (alt (bearingFrom 4) (bearingFrom 5)) refl)) h
-
-  pub point-four : ended (bearingFrom 4) s r ≡ true → scan (run Alnum 2 5) s r .next < scan (bearingFrom 4) s r .next → scan (bearingFrom 2) s r .ok ≡ false → scan (bearingFrom 3) s r .ok ≡ false → scan (bearingFrom 4) s r ≡ scan pointed s r
-  unfolding bearingFrom bearing within lies bytes
-  point-four e h o p =
-      point-is (bearingFrom 4) e
-      (next-arm (bearingFrom 4) e (bearingFrom 2) (alt (bearingFrom 3) (alt (bearingFrom 4) (bearingFrom 5))) refl o
-      (next-arm (bearingFrom 4) e (bearingFrom 3) (alt (bearingFrom 4) (bearingFrom 5)) refl p
-      (last-arm (bearingFrom 4) e (bearingFrom 5) refl))) h
-
-  pub point-five : ended (bearingFrom 5) s r ≡ true → scan (run Alnum 2 5) s r .next < scan (bearingFrom 5) s r .next → scan (bearingFrom 2) s r .ok ≡ false → scan (bearingFrom 3) s r .ok ≡ false → scan (bearingFrom 4) s r .ok ≡ false → scan (bearingFrom 5) s r ≡ scan pointed s r
-  unfolding bearingFrom bearing within lies bytes
-  point-five e h o p q =
-      point-is (bearingFrom 5) e
-      (next-arm (bearingFrom 5) e (bearingFrom 2) (alt (bearingFrom 3) (alt (bearingFrom 4) (bearingFrom 5))) refl o
-      (next-arm (bearingFrom 5) e (bearingFrom 3) (alt (bearingFrom 4) (bearingFrom 5)) refl p
-      (next-arm (bearingFrom 5) e (bearingFrom 4) (bearingFrom 5) refl q (refl, λ n. refl)))) h
+  pub point-form : (q : Scan) → OfPoint s r q → q .ok && not (scan (one Alnum) s q .ok) ≡ true → q ≡ scan pointed s r
+  point-form q (x, l, p) e = p ∙ sym (arm-is l (sym (ap (λ (q : Scan). q .ok && not (scan (one Alnum) s q .ok)) p) ∙ e))
 
   -- FIELD 15 AFTER ITS SPEED
 

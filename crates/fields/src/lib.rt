@@ -1,12 +1,15 @@
 // Document 01's fields: each function mirrors the grammar of one field and notes where its parts stand.
 ghost use mathlib.Core.Path.{_≡_};
-ghost use mathlib.Core.Bool.{_&&_, not};
+ghost use mathlib.Core.Bool.{_&&_, not, true};
 ghost use Rattle.scan.specs.declared.Class.the-variants.{Alnum};
 ghost use Rattle.scan.specs.Texts.{one as oneG};
 ghost use Prim.Native.Nat.{_≤_};
 ghost use Rattle.scan.specs.Scanner.{scan as scanG};
 ghost use Rattle.fields.specs.Fields.{counted as countedG, hour as hourG, minute as minuteG, timed, levelled, bearing as bearingG, bearingFrom, degrees as degreesG, minutes as minutesG, pointed, rest16 as rest16G};
+ghost use Rattle.fields.specs.Numbers.{Numbered};
+ghost use Rattle.fields.specs.Chosen.{OfPoint};
 ghost use Rattle.fields.specs.Found.{foundNumber, found07, found08, found09, found10, found13, found13o, found14, foundRouted, foundAfter15, foundSped, found15, foundAlternates, found16, found18};
+use scan::Class;
 use scan::Scan;
 use scan::Span;
 
@@ -79,10 +82,52 @@ pub struct Found18 {
     pub other: Span,
 }
 
-// A message number, or a reference.
+// Whether a whole number stands at `at`. One test for all twelve bytes costs less than one for each piece.
+fn numbered(s: &[u8], at: usize) -> bool
+    ensures { λ b. ⌜ (b ≡ true → Numbered (now (s .entry)) at) ⌝ }
+{
+    if s.len() < 12 {
+        return false;
+    }
+    if s.len() - 12 < at {
+        return false;
+    }
+    let a = scan::all_in(&s[at..at + 4], b'A', b'Z', b'A', b'Z');
+    let b = scan::is_in(Class::Byte(b'/'), s[at + 4]);
+    let c = scan::all_in(&s[at + 5..at + 9], b'A', b'Z', b'A', b'Z');
+    let d = scan::all_in(&s[at + 9..at + 12], b'0', b'9', b'0', b'9');
+    a & b & c & d
+}
+
+// A message number, or a reference. Nearly always it is whole; only if not, piece by piece.
 pub fn number(s: &[u8], r: Scan) -> FoundNumber
     ensures { λ q. ⌜ q ≡ foundNumber (now (s .entry)) r ⌝ }
 {
+    let at = r.next;
+    if r.ok & numbered(s, at) {
+        let a = Scan {
+            next: at + 4,
+            ok: true,
+        };
+        let b = Scan {
+            next: at + 5,
+            ok: true,
+        };
+        let c = Scan {
+            next: at + 9,
+            ok: true,
+        };
+        let d = Scan {
+            next: at + 12,
+            ok: true,
+        };
+        return FoundNumber {
+            end: d,
+            sender: scan::between(r, a),
+            receiver: scan::between(b, c),
+            digits: scan::between(c, d),
+        };
+    }
     let a = scan::letters(s, r, 4);
     let b = scan::byte(s, a, b'/');
     let c = scan::letters(s, b, 4);
@@ -312,7 +357,45 @@ fn ended(s: &[u8], r: Scan) -> bool
     r.ok & !z.ok
 }
 
-// The forms are tried in turn. One that has ended is taken if no earlier one was whole and the name is behind.
+// A form of a point that has n letters or digits more than a name of five.
+fn form_of(s: &[u8], r: Scan, n: usize) -> Scan
+    ensures { λ q. ⌜ OfPoint (now (s .entry)) r q ⌝ }
+{
+    if n == 2 {
+        return degrees(s, r);
+    }
+    if n == 3 {
+        return bearing_from(s, r, 2);
+    }
+    if n == 4 {
+        return bearing_from(s, r, 3);
+    }
+    if n == 5 {
+        return bearing_from(s, r, 4);
+    }
+    let m = minutes(s, r);
+    if m.ok {
+        return m;
+    }
+    bearing_from(s, r, 5)
+}
+
+// All forms of a point.
+fn any_point(s: &[u8], r: Scan) -> Scan
+    ensures { λ q. ⌜ q ≡ scanG pointed (now (s .entry)) r ⌝ }
+{
+    let a = scan::alnums(s, r, 2, 5);
+    let b = bearing_from(s, r, 2);
+    let c = bearing_from(s, r, 3);
+    let d = bearing_from(s, r, 4);
+    let e = bearing_from(s, r, 5);
+    let f = scan::longer(b, scan::longer(c, scan::longer(d, e)));
+    let g = scan::longer(degrees(s, r), minutes(s, r));
+    scan::longer(a, scan::longer(f, g))
+}
+
+// Where a form has ended, no other goes further. So the number of letters and digits says which form to try, and only
+// where that one has not ended, all are.
 fn point(s: &[u8], r: Scan) -> Scan
     ensures { λ q. ⌜ q ≡ scanG pointed (now (s .entry)) r ⌝ }
 {
@@ -320,25 +403,12 @@ fn point(s: &[u8], r: Scan) -> Scan
     if ended(s, a) {
         return a;
     }
-    let b = bearing_from(s, r, 2);
-    if ended(s, b) & (a.next < b.next) {
+    let z = scan::alnums(s, a, 0, 7);
+    let b = form_of(s, r, z.next - a.next);
+    if ended(s, b) {
         return b;
     }
-    let c = bearing_from(s, r, 3);
-    if ended(s, c) & (a.next < c.next) & !b.ok {
-        return c;
-    }
-    let d = bearing_from(s, r, 4);
-    if ended(s, d) & (a.next < d.next) & !b.ok & !c.ok {
-        return d;
-    }
-    let e = bearing_from(s, r, 5);
-    if ended(s, e) & (a.next < e.next) & !b.ok & !c.ok & !d.ok {
-        return e;
-    }
-    let f = scan::longer(b, scan::longer(c, scan::longer(d, e)));
-    let g = scan::longer(degrees(s, r), minutes(s, r));
-    scan::longer(a, scan::longer(f, g))
+    any_point(s, r)
 }
 
 pub fn field14(s: &[u8], r: Scan) -> Found14

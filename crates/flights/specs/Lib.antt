@@ -7,3 +7,4 @@ pub mod Flight
 pub mod Records
 pub mod Checked
 pub mod Deciding
+pub mod Table

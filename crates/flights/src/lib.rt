@@ -10,6 +10,7 @@ ghost use Rattle.fields.specs.Fields.{timed, in08, in09, in10, in14, in15, rest
 ghost use Rattle.flights.specs.Padding.{trimmed};
 ghost use Rattle.flights.specs.Stretches.{each, passed};
 ghost use Rattle.flights.specs.Flight.{numberAt, flightOf, WellFormed};
+ghost use Rattle.flights.specs.Table.{same as sameB, hasKey, found, lowestFree};
 ghost use Rattle.flights.specs.Checked.{Used, Texts, Filed, Active};
 use scan::Scan;
 
@@ -212,4 +213,71 @@ pub fn is_well_formed(b: &[u8]) -> bool
         return all_are(b, 0);
     }
     is_flight(b)
+}
+
+// Where in a table something is.
+pub enum Place {
+    At(usize),
+    Nowhere,
+}
+
+// Whether two texts are the same. It looks at every byte before it answers.
+fn same(a: &[u8], b: &[u8]) -> bool
+    ensures { λ r. ⌜ r ≡ sameB (now (a .entry)) (now (b .entry)) ⌝ }
+{
+    if a.len() != b.len() {
+        return false;
+    }
+    let mut ok = true;
+    let mut i = 0;
+    while i < a.len() {
+        ok = ok & (a[i] == b[i]);
+        i += 1;
+    }
+    ok
+}
+
+// Whether a used record has a key.
+fn has_key(b: &[u8], aircraft: &[u8], departure: &[u8], destination: &[u8]) -> bool
+    requires { ⌜ length (now b) ≡ 768 ⌝ }
+    ensures { λ r. ⌜ r ≡ hasKey (now (aircraft .entry)) (now (departure .entry)) (now (destination .entry)) (now (b .entry)) ⌝ }
+{
+    if b[0] == 0 {
+        return false;
+    }
+    if !same(text_at(b, 6, 7), aircraft) {
+        return false;
+    }
+    same(text_at(b, 17, 4), departure) & same(text_at(b, 25, 4), destination)
+}
+
+// The lowest place with a key.
+pub fn find(table: &[u8], aircraft: &[u8], departure: &[u8], destination: &[u8]) -> Place
+    ensures { λ r. ⌜ r ≡ found (now (aircraft .entry)) (now (departure .entry)) (now (destination .entry)) (now (table .entry)) ⌝ }
+{
+    let n = table.len() / 768;
+    let mut i = 0;
+    while i < n {
+        let a = i * 768;
+        if has_key(&table[a..a + 768], aircraft, departure, destination) {
+            return Place::At(i);
+        }
+        i += 1;
+    }
+    Place::Nowhere
+}
+
+// The lowest free place.
+pub fn lowest_free(table: &[u8]) -> Place
+    ensures { λ r. ⌜ r ≡ lowestFree (now (table .entry)) ⌝ }
+{
+    let n = table.len() / 768;
+    let mut i = 0;
+    while i < n {
+        if table[i * 768] == 0 {
+            return Place::At(i);
+        }
+        i += 1;
+    }
+    Place::Nowhere
 }

@@ -2,6 +2,7 @@
 ghost use mathlib.Core.Path.{_≡_};
 ghost use Prim.Native.Nat.{_+_, _-_, _≤_, _<_};
 ghost use lib.ListN.{length, getD};
+ghost use lib.Dec.{eqb};
 ghost use Rattle.types.specs.Picking.{lettersOf};
 ghost use Rattle.message.specs.Record.{kindOf, levelKindOf, figureAt, levelIn, formIn, figuresOf, planFiguresOf, blank as blankOf, isChg};
 ghost use Rattle.message.specs.Reading.{hyphens as hyphensOf, Judged, cut, Words, route as routeOf, other as otherOf};
@@ -84,11 +85,12 @@ pub struct Outcome {
     pub record: Record,
 }
 
-// How many hyphens s has.
-fn hyphens(s: &[u8]) -> usize
+// How many hyphens s has, which is short. The count is as wide as a byte, so that sixteen bytes are counted at once.
+fn few_hyphens(s: &[u8]) -> u8
+    requires { ⌜ length (now s) < 256 ⌝ }
     ensures { λ r. ⌜ r ≡ hyphensOf (now (s .entry)) ⌝ }
 {
-    let mut n: usize = 0;
+    let mut n: u8 = 0;
     let mut i = 0;
     while i < s.len() {
         if s[i] == b'-' {
@@ -97,6 +99,19 @@ fn hyphens(s: &[u8]) -> usize
         i += 1;
     }
     n
+}
+
+// How many hyphens s has.
+fn hyphens(s: &[u8]) -> usize
+    ensures { λ r. ⌜ r ≡ hyphensOf (now (s .entry)) ⌝ }
+{
+    let mut n: usize = 0;
+    let mut i = 0;
+    while 224 < s.len() - i {
+        n += scan::wide(few_hyphens(&s[i..i + 224]));
+        i += 224;
+    }
+    n + scan::wide(few_hyphens(&s[i..]))
 }
 
 // The byte at i, 0 past the end.
@@ -229,20 +244,48 @@ fn number_figure(s: &[u8], p: Span) -> usize
     figure(s, at, len)
 }
 
+fn absent(p: Span) -> bool
+    ensures { λ r. ⌜ r ≡ eqb (p .len) 0 ⌝ }
+{
+    p.len == 0
+}
+
+// Most types have neither levels nor a point nor a count, and one test of all says so.
 fn decoded(s: &[u8], p: Parts) -> Figures
     ensures { λ r. ⌜ r ≡ figuresOf (now (s .entry)) p ⌝ }
 {
     let n = p.number;
     let r = p.reference;
     let e = p.estimate;
+    let o = p.own;
+    let c = p.changes;
     let number = number_figure(s, n.digits);
     let reference = number_figure(s, r.digits);
-    let own = plan_figures(s, p.own);
+    let reason = number_figure(s, p.reason);
+    let plans = absent(o.count) & absent(o.level) & absent(c.count) & absent(c.level);
+    let point = absent(e.point) & absent(e.crossing) & absent(e.second);
+    if plans & point {
+        let level = Level {
+            kind: LevelKind::Absent,
+            figure: 0,
+        };
+        let plan = PlanFigures { count: 0, level };
+        return Figures {
+            number,
+            reference,
+            own: plan,
+            form: PointForm::NoPoint,
+            crossing: level,
+            second: level,
+            changes: plan,
+            reason,
+        };
+    }
+    let own = plan_figures(s, o);
     let form = form_in(s, e.point);
     let crossing = level_in(s, e.crossing);
     let second = level_in(s, e.second);
-    let changes = plan_figures(s, p.changes);
-    let reason = number_figure(s, p.reason);
+    let changes = plan_figures(s, c);
     Figures {
         number,
         reference,

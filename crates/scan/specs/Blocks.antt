@@ -1,20 +1,20 @@
 -- Words by blocks: a block whose bytes are all word bytes, or blanks after a byte that is none, is passed at once.
 -- The code's loops use it; nothing public cites it.
-use mathlib.Core.Path.{_≡_, sym, ap, _∙_}
+use mathlib.Core.Path.{_≡_, refl, sym, ap, _∙_}
 use mathlib.Core.Logic.{_⊎_, inl, inr, ⊎-elim}
 use mathlib.Core.Bool.{Bool, true, false, not, _&&_, _||_, false≢true}
 use mathlib.Core.List.{List, [], _∷_}
-use Prim.Native.Nat.{ℕ, zero, suc, _+_, _-_, _≤_, _<_}
+use Prim.Native.Nat.{ℕ, zero, suc, _+_, _-_, _/_, _%_, _^_, _≤_, _<_}
 use native.Mathlib.Omega.{arith}
 use native.Mathlib.Numerals.{add-one}
-use lib.Dec.{leb, ltb}
+use lib.Dec.{leb, ltb, eqb}
 use lib.ListN.{length, getD, take, drop, drop-of-length-le}
 use lib.Seq.{drop-cons}
-use borrow.Author.Tests.{lt-ltb, leb-true, le-leb}
-use Rattle.scan.specs.declared.Class.the-variants.{Alnum, Word, Byte}
-use Rattle.scan.specs.Grammar.{isIn, has}
+use borrow.Author.Tests.{lt-ltb, leb-true, le-leb, lt-leb, eqb-true, eqb-false, not-true}
+use Rattle.scan.specs.declared.Class.the-variants.{Word, Byte}
+use Rattle.scan.specs.Grammar.{isIn}
 use Rattle.scan.specs.Scanner.{wordsAt}
-use Rattle.scan.specs.Bools.{and-l, and-r, both, or-split, or-l, or-r, known}
+use Rattle.scan.specs.Bools.{and-l, and-r, both, known}
 use Rattle.scan.specs.Laws.{words-on, words-gap}
 
 -- whether a byte may follow another
@@ -58,19 +58,50 @@ no-blank x e = ⊎-elim (λ b. absurd (no b)) (λ b. b) (known (isIn (Byte 32) x
         let n : x ≡ 32 = omega (arith, leb-true 32 x (and-l (leb 32 x) (leb x 32) b), leb-true x 32 (and-r (leb 32 x) (leb x 32) b)) in
         false≢true (rw n at e)
 
--- a letter or digit is a word byte
-pub alnum-word : (x : ℕ) → isIn Alnum x ≡ true → isIn Word x ≡ true
-alnum-word x e = ⊎-elim digit letter (or-split (leb 48 x && leb x 57) (leb 65 x && leb x 90) e)
-  where
-    letter : leb 65 x && leb x 90 ≡ true → isIn Word x ≡ true
-    letter f = or-r (has ((46, 58) ∷ (43, 44) ∷ (39, 39) ∷ (63, 63) ∷ []) x) (leb 65 x && leb x 90) f
+-- WORD BYTES AS THE BITS OF A NUMBER
 
-    digit : leb 48 x && leb x 57 ≡ true → isIn Word x ≡ true
-    digit f =
-        let a = leb-true 48 x (and-l (leb 48 x) (leb x 57) f) in
-        let b = leb-true x 57 (and-r (leb 48 x) (leb x 57) f) in
-        let g : leb 46 x && leb x 58 ≡ true = both (leb 46 x) (leb x 58) (le-leb 46 x (omega arith)) (le-leb x 58 (omega arith)) in
-        or-l (has ((46, 58) ∷ (43, 44) ∷ (39, 39) ∷ (63, 63) ∷ []) x) (leb 65 x && leb x 90) (or-r (has ((43, 44) ∷ (39, 39) ∷ (63, 63) ∷ []) x) (leb 46 x && leb x 58) g)
+-- a test passes at each number below n
+unfoldable below : (ℕ → Bool) → ℕ → Bool
+below f zero = true
+below f (suc n) = f n && below f n
+
+each-below : (f : ℕ → Bool) (n : ℕ) → below f n ≡ true → (k : ℕ) → k < n → f k ≡ true
+unfolding below
+each-below f zero e k h = absurd (omega arith)
+each-below f (suc n) e k h = go (eqb k n) refl (each-below f n (and-r (f n) (below f n) e) k)
+  where
+    go : (b : Bool) → eqb k n ≡ b → (k < n → f k ≡ true) → f k ≡ true
+    go true q r = ap f (eqb-true k n q) ∙ and-l (f n) (below f n) e
+    go false q r = r (omega (arith, eqb-false k n q))
+
+unfoldable alike : Bool → Bool → Bool
+alike true b = b
+alike false b = not b
+
+alike-same : (a b : Bool) → alike a b ≡ true → a ≡ b
+unfolding alike
+alike-same true b e = sym e
+alike-same false b e = sym (not-true b e)
+
+-- bit k of the number, and whether k + 39 is a word byte
+abbrev pub wordBit : ℕ → Bool
+wordBit k = eqb (4503599578087345 / 2 ^ k % 2) 1
+
+bits-right : below (λ k. alike (wordBit k) (isIn Word (k + 39))) 52 ≡ true
+unfolding below alike
+bits-right = refl
+
+pub word-bit : (x : ℕ) → 39 ≤ x → x ≤ 90 → wordBit (x - 39) ≡ isIn Word x
+word-bit x h l =
+    let n : x - 39 + 39 ≡ x = omega arith in
+    alike-same (wordBit (x - 39)) (isIn Word (x - 39 + 39)) (each-below (λ k. alike (wordBit k) (isIn Word (k + 39))) 52 bits-right (x - 39) (omega arith)) ∙ ap (isIn Word) n
+
+pub word-low : (x : ℕ) → x < 39 → false ≡ isIn Word x
+word-low x h = rw (lt-leb 63 x (omega arith), lt-leb 39 x (omega arith), lt-leb 43 x (omega arith), lt-leb 46 x (omega arith), lt-leb 65 x (omega arith))
+
+pub word-high : (x : ℕ) → 90 < x → false ≡ isIn Word x
+word-high x h =
+    rw (le-leb 63 x (omega arith), le-leb 39 x (omega arith), le-leb 43 x (omega arith), le-leb 46 x (omega arith), le-leb 65 x (omega arith), lt-leb x 63 (omega arith), lt-leb x 39 (omega arith), lt-leb x 44 (omega arith), lt-leb x 58 (omega arith), lt-leb x 90 (omega arith))
 
 -- where the byte j is a word byte or a blank, whether it is a word byte is whether it is no blank
 abbrev pub mid : List ℕ → ℕ → Bool

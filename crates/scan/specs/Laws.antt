@@ -123,6 +123,15 @@ module _ (c : Class) (k : ℕ) (s : List ℕ) (r : Scan) (o : r .ok ≡ true) (b
       same zero f = sym (le-leb 0 (runAt c k s (r .next) - r .next) (omega arith))
       same (suc m) f = ne-eqb (suc m) 0 (λ e. omega arith) ∙ sym (lt-leb (suc m) (runAt c k s (r .next) - r .next) (omega (arith, f (omega arith))))
 
+-- all k bytes from a to e are of the class: the run is whole
+pub run-spanned : (c : Class) (k : ℕ) (s : List ℕ) (a e : ℕ) → a + k ≡ e → e ≤ length s → all c (take (e - a) (drop a s)) ≡ true → runScan c k k s (record { next = a; ok = true }) ≡ record { next = e; ok = true }
+unfolding runScan
+run-spanned c k s a e p h f =
+    let m : e - a ≡ k = omega arith in
+    let g : all c (take k (drop a s)) ≡ true = rw m at f in
+    let n : a + k - a ≡ k = omega arith in
+    rw (run-all c k s a (omega arith) g, n, le-leb k k (omega arith), p)
+
 -- ok: whether the bytes before j are of the class, b: whether all are
 pub all-next : (c : Class) (t : List ℕ) (j : ℕ) (ok f b : Bool) → j < length t → f ≡ isIn c (getD t j 0) → b ≡ (ok && all c (drop j t)) → b ≡ ((ok && f) && all c (drop (j + 1) t))
 unfolding all

@@ -91,7 +91,7 @@ fn reach(s: &[u8], at: usize, hi: usize, a: u8, z: u8, b: u8, y: u8) -> usize
 }
 
 // Whether each byte is from a to z or from b to y. As in words_block, the loop has no way out.
-fn all_in(t: &[u8], a: u8, z: u8, b: u8, y: u8) -> bool
+pub fn all_in(t: &[u8], a: u8, z: u8, b: u8, y: u8) -> bool
     ensures { λ r. ⌜ r ≡ all (Class.Two a z b y) (now (t .entry)) ⌝ }
 {
     let mut ok = true;
@@ -296,14 +296,20 @@ pub fn lit<'a>(s: &'a [u8], r: Scan, w: &'a [u8]) -> Scan
     q
 }
 
-// Whether a byte is a word byte. Nearly all are letters and digits, so these are tried first.
+// The word bytes from 39 to 90, a bit for each, the lowest for 39.
+const WORDS: u64 = 4503599578087345;
+
+// Whether a byte is a word byte. Outside of the blocks bytes go one by one, and a bit of a number costs the least.
 fn is_word(b: u8) -> bool
     ensures { λ r. ⌜ r ≡ isIn Word b ⌝ }
 {
-    if is_in(Class::Alnum, b) {
-        return true;
+    if b < 39 {
+        return false;
     }
-    is_in(Class::Word, b)
+    if 90 < b {
+        return false;
+    }
+    (WORDS >> (b - 39)) % 2 == 1
 }
 
 // Whether each byte after the first is a word byte, or a blank after a byte that is no blank.

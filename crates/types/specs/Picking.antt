@@ -91,6 +91,9 @@ pub record Typed (s : List ℕ) : Type 0 where
   pub two : getD s 2 0 < 256
   pub three : getD s 3 0 < 256
 
+pub typed : (s : List ℕ) → 4 ≤ length s → getD s 0 0 ≡ 40 → getD s 1 0 < 256 → getD s 2 0 < 256 → getD s 3 0 < 256 → Typed s
+typed s h o a b c = record { long = h; opens = o; one = a; two = b; three = c }
+
 pub fpl-picked : (s : List ℕ) (q : Scanned) → Typed s → lettersOf s ≡ 4608076 → q ≡ scannedBy fpl s → q ≡ scannedBy message s
 unfolding fplArm cplArm estArm chgArm cnlArm rtiArm rtaArm rlaArm lamArm lrmArm otherArms
 fpl-picked s q t w e =

@@ -5,7 +5,7 @@ ghost use lib.ListN.{length};
 ghost use Rattle.scan.specs.Grammar.{none};
 ghost use Rattle.types.specs.Messages.{opened as openedG, referring as referringG, fpl as fplG, cpl as cplG, est as estG, chg as chgG, cnl as cnlG, rti as rtiG, rta as rtaG, rla as rlaG, lam as lamG, lrm as lrmG, message as messageG};
 ghost use Rattle.types.specs.Scanned.{partsOf, noNumber, noEstimate, openedBy, frontOf, scannedBy};
-ghost use Rattle.types.specs.Picking.{unknownOf, lettersOf, Typed};
+ghost use Rattle.types.specs.Picking.{unknownOf, lettersOf};
 use changes::Plan;
 use scan::Scan;
 use scan::Span;
@@ -619,11 +619,18 @@ pub fn letters(s: &[u8]) -> usize
     scan::wide(s[1]) * 65536 + scan::wide(s[2]) * 256 + scan::wide(s[3])
 }
 
-// The scan of the one type that has the letters.
-fn by_letters(s: &[u8], w: usize) -> Scanned
-    requires { ⌜ Typed (now s) × (lettersOf (now s) ≡ w) ⌝ }
+// The scan of the one type that has the letters. The types are called from here and from no function between, so that
+// the parts are written where the caller wants them.
+pub fn scan_any(s: &[u8]) -> Scanned
     ensures { λ q. ⌜ q ≡ scannedBy messageG (now (s .entry)) ⌝ }
 {
+    if s.len() < 4 {
+        return unknown(s);
+    }
+    if s[0] != b'(' {
+        return unknown(s);
+    }
+    let w = letters(s);
     if w == 4608076 {
         return fpl(s);
     }
@@ -655,16 +662,4 @@ fn by_letters(s: &[u8], w: usize) -> Scanned
         return lrm(s);
     }
     unknown(s)
-}
-
-pub fn scan_any(s: &[u8]) -> Scanned
-    ensures { λ q. ⌜ q ≡ scannedBy messageG (now (s .entry)) ⌝ }
-{
-    if s.len() < 4 {
-        return unknown(s);
-    }
-    if s[0] != b'(' {
-        return unknown(s);
-    }
-    by_letters(s, letters(s))
 }

@@ -1,11 +1,10 @@
 use Prim.Native.Nat.{_+_, _≤_, _-_}
 use mathlib.Core.Path.{_≡_}
-use mathlib.Core.Logic.{⊎-elim}
 use native.Mathlib.Omega.{arith}
-use lib.ListN.{length, drop}
+use lib.ListN.{length, drop, length-take, length-drop}
 use borrow.Author.Needs.{needs}
 use Rattle.message.specs.Reading.{hyphens}
-use Rattle.message.specs.Figures.{hyphen-on, hyphen-off, hyphen-end}
+use Rattle.message.specs.Figures.{hyphen-part, hyphen-block, hyphen-rest}
 use Rattle.message.proofs.hyphens.Statement.{statement}
 use Rattle.message.proofs.hyphens.Tie as tie
 
@@ -15,16 +14,6 @@ Inv-loop s n₀ i₀ n i = (i ≤ length s) × (n ≤ i) × (n + hyphens (drop i
 
 abbrev μ-loop : tie.MeasureT-loop
 μ-loop s n₀ i₀ n i = length s - i
-
-loop-again : tie.Need-loop-again Inv-loop μ-loop
-loop-again c =
-    let t = c .before .before in
-    let l = t .before .loop in
-    let s = t .before .before .args .s .now in
-    ⊎-elim
-    (λ w. (omega arith, omega arith, omega (arith, hyphen-on s (l .i) (t .loop-test .taken) (w .0 .taken))))
-    (λ w. (omega arith, omega arith, omega (arith, hyphen-off s (l .i) (t .loop-test .taken) (w .0 .left))))
-    (c .if1 .came)
 
 pub hyphens-spec : {M : Type 1} → statement M
 hyphens-spec =
@@ -37,5 +26,22 @@ hyphens-spec =
     (λ c. search needs)
     (λ c. search needs)
     (λ c. search needs)
-    loop-again
-    (λ c. let l = c .before .loop in omega (arith, hyphen-end (c .before .before .args .s .now) (l .i) (l .inv .0) (c .loop-test .left))))
+    (λ c. search needs)
+    (λ c κs. simp (length-take, length-drop) (omega arith))
+    (λ c κs. tt)
+    (λ c. let h = c .wide .ensures .1 in search needs)
+    (λ c. search needs)
+    (λ c. search needs)
+    (λ c.
+    let l = c .before .before .before .before .loop in
+    let s = c .before .before .before .before .before .before .args .s .now in
+    let w = c .wide .ensures .0 in
+    let f = c .before .few-hyphens .ensures in
+    (search needs, omega (arith, w, f, hyphen-part s (l .i) 224, l .inv .1), omega (arith, w, f, hyphen-block s (l .i) 224, l .inv .2)))
+    (λ c. search needs)
+    (λ c. search needs)
+    (λ c. search needs)
+    (λ c κs. simp (length-take, length-drop) (omega arith))
+    (λ c κs. tt)
+    (λ c. let h = c .wide2 .ensures .1 in search needs)
+    (λ c. let l = c .before .before .before .before .loop in omega (arith, c .wide2 .ensures .0, c .before .few-hyphens2 .ensures, hyphen-rest (c .before .before .before .before .before .before .args .s .now) (l .i) (l .inv .0), l .inv .2)))

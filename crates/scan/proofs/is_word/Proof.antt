@@ -1,7 +1,14 @@
-use mathlib.Core.Path.{sym, _∙_}
-use Rattle.scan.specs.Blocks.{alnum-word}
+use borrow.Author.Needs.{needs}
+use Rattle.scan.specs.Blocks.{word-low, word-high, word-bit}
 use Rattle.scan.proofs.is_word.Statement.{statement}
 use Rattle.scan.proofs.is_word.Tie as tie
 
 pub is-word-spec : {M : Type 1} → statement M
-is-word-spec = tie.close (tie.spec (λ c κs. tt) (λ c. sym (alnum-word (c .before .before .args .b) (sym (c .before .is-in .ensures) ∙ c .if1 .taken))) (λ c κs. tt) (λ c. c .is-in2 .ensures))
+is-word-spec =
+    tie.close
+    (tie.spec
+    (λ c. word-low _ (c .if1 .taken))
+    (λ c. word-high _ (c .if2 .taken))
+    (λ c. search needs)
+    (λ c. search needs)
+    (λ c. word-bit _ (c .before .if1 .left) (c .if2 .left)))

@@ -1,22 +1,9 @@
-use mathlib.Core.Path.{sym}
+use mathlib.Core.Path.{sym, _∙_}
 use native.Mathlib.Omega.{arith}
 use borrow.Author.Needs.{needs}
-use Rattle.types.specs.Picking.{short-misses, shut-misses, unknown-missed}
+use Rattle.types.specs.Picking.{typed, fpl-picked, cpl-picked, est-picked, chg-picked, cnl-picked, rti-picked, rta-picked, rla-picked, lam-picked, lrm-picked, short-misses, shut-misses, strange-misses, unknown-missed}
 use Rattle.types.proofs.scan_any.Statement.{statement}
 use Rattle.types.proofs.scan_any.Tie as tie
-
-by-letters-requires : tie.Need-by-letters-requires
-by-letters-requires c κs =
-    let b = c .before .before .shared-slice-known2 .given in (
-      record {
-        long = c .before .before .before .if1 .left;
-        opens = c .before .if2 .left;
-        one = omega (arith, b 1);
-        two = omega (arith, b 2);
-        three = omega (arith, b 3);
-      },
-      sym (c .letters .ensures),
-    )
 
 pub scan-any-spec : {M : Type 1} → statement M
 scan-any-spec =
@@ -28,5 +15,47 @@ scan-any-spec =
     (λ c κs. tt)
     (λ c. unknown-missed _ _ (shut-misses (c .before .before .before .before .before .args .s .now) (c .before .before .before .if1 .left) (c .before .if2 .taken)) (c .unknown2 .ensures))
     (λ c κs. search needs)
-    by-letters-requires
-    (λ c. c .by-letters .ensures))
+    (λ c κs. tt)
+    (λ c.
+    let t = c .before .before in
+    fpl-picked _ _ (typed (t .before .before .before .before .before .args .s .now) (t .before .before .before .if1 .left) (t .before .if2 .left) (omega (arith, t .before .before .shared-slice-known2 .given 1)) (omega (arith, t .before .before .shared-slice-known2 .given 2)) (omega (arith, t .before .before .shared-slice-known2 .given 3))) (sym (t .letters .ensures) ∙ c .before .if3 .taken) (c .fpl .ensures))
+    (λ c κs. tt)
+    (λ c.
+    let t = c .before .before .before in
+    cpl-picked _ _ (typed (t .before .before .before .before .before .args .s .now) (t .before .before .before .if1 .left) (t .before .if2 .left) (omega (arith, t .before .before .shared-slice-known2 .given 1)) (omega (arith, t .before .before .shared-slice-known2 .given 2)) (omega (arith, t .before .before .shared-slice-known2 .given 3))) (sym (t .letters .ensures) ∙ c .before .if4 .taken) (c .cpl .ensures))
+    (λ c κs. tt)
+    (λ c.
+    let t = c .before .before .before .before in
+    est-picked _ _ (typed (t .before .before .before .before .before .args .s .now) (t .before .before .before .if1 .left) (t .before .if2 .left) (omega (arith, t .before .before .shared-slice-known2 .given 1)) (omega (arith, t .before .before .shared-slice-known2 .given 2)) (omega (arith, t .before .before .shared-slice-known2 .given 3))) (sym (t .letters .ensures) ∙ c .before .if5 .taken) (c .est .ensures))
+    (λ c κs. tt)
+    (λ c.
+    let t = c .before .before .before .before .before in
+    chg-picked _ _ (typed (t .before .before .before .before .before .args .s .now) (t .before .before .before .if1 .left) (t .before .if2 .left) (omega (arith, t .before .before .shared-slice-known2 .given 1)) (omega (arith, t .before .before .shared-slice-known2 .given 2)) (omega (arith, t .before .before .shared-slice-known2 .given 3))) (sym (t .letters .ensures) ∙ c .before .if6 .taken) (c .chg .ensures))
+    (λ c κs. tt)
+    (λ c.
+    let t = c .before .before .before .before .before .before in
+    cnl-picked _ _ (typed (t .before .before .before .before .before .args .s .now) (t .before .before .before .if1 .left) (t .before .if2 .left) (omega (arith, t .before .before .shared-slice-known2 .given 1)) (omega (arith, t .before .before .shared-slice-known2 .given 2)) (omega (arith, t .before .before .shared-slice-known2 .given 3))) (sym (t .letters .ensures) ∙ c .before .if7 .taken) (c .cnl .ensures))
+    (λ c κs. tt)
+    (λ c.
+    let t = c .before .before .before .before .before .before .before in
+    rti-picked _ _ (typed (t .before .before .before .before .before .args .s .now) (t .before .before .before .if1 .left) (t .before .if2 .left) (omega (arith, t .before .before .shared-slice-known2 .given 1)) (omega (arith, t .before .before .shared-slice-known2 .given 2)) (omega (arith, t .before .before .shared-slice-known2 .given 3))) (sym (t .letters .ensures) ∙ c .before .if8 .taken) (c .rti .ensures))
+    (λ c κs. tt)
+    (λ c.
+    let t = c .before .before .before .before .before .before .before .before in
+    rta-picked _ _ (typed (t .before .before .before .before .before .args .s .now) (t .before .before .before .if1 .left) (t .before .if2 .left) (omega (arith, t .before .before .shared-slice-known2 .given 1)) (omega (arith, t .before .before .shared-slice-known2 .given 2)) (omega (arith, t .before .before .shared-slice-known2 .given 3))) (sym (t .letters .ensures) ∙ c .before .if9 .taken) (c .rta .ensures))
+    (λ c κs. tt)
+    (λ c.
+    let t = c .before .before .before .before .before .before .before .before .before in
+    rla-picked _ _ (typed (t .before .before .before .before .before .args .s .now) (t .before .before .before .if1 .left) (t .before .if2 .left) (omega (arith, t .before .before .shared-slice-known2 .given 1)) (omega (arith, t .before .before .shared-slice-known2 .given 2)) (omega (arith, t .before .before .shared-slice-known2 .given 3))) (sym (t .letters .ensures) ∙ c .before .if10 .taken) (c .rla .ensures))
+    (λ c κs. tt)
+    (λ c.
+    let t = c .before .before .before .before .before .before .before .before .before .before in
+    lam-picked _ _ (typed (t .before .before .before .before .before .args .s .now) (t .before .before .before .if1 .left) (t .before .if2 .left) (omega (arith, t .before .before .shared-slice-known2 .given 1)) (omega (arith, t .before .before .shared-slice-known2 .given 2)) (omega (arith, t .before .before .shared-slice-known2 .given 3))) (sym (t .letters .ensures) ∙ c .before .if11 .taken) (c .lam .ensures))
+    (λ c κs. tt)
+    (λ c.
+    let t = c .before .before .before .before .before .before .before .before .before .before .before in
+    lrm-picked _ _ (typed (t .before .before .before .before .before .args .s .now) (t .before .before .before .if1 .left) (t .before .if2 .left) (omega (arith, t .before .before .shared-slice-known2 .given 1)) (omega (arith, t .before .before .shared-slice-known2 .given 2)) (omega (arith, t .before .before .shared-slice-known2 .given 3))) (sym (t .letters .ensures) ∙ c .before .if12 .taken) (c .lrm .ensures))
+    (λ c κs. tt)
+    (λ c.
+    let t = c .before .before .before .before .before .before .before .before .before .before .before in
+    unknown-missed _ _ (strange-misses (t .before .before .before .before .before .args .s .now) (t .before .before .before .if1 .left) (λ e. c .before .before .before .before .before .before .before .before .before .before .if3 .left (t .letters .ensures ∙ e)) (λ e. c .before .before .before .before .before .before .before .before .before .if4 .left (t .letters .ensures ∙ e)) (λ e. c .before .before .before .before .before .before .before .before .if5 .left (t .letters .ensures ∙ e)) (λ e. c .before .before .before .before .before .before .before .if6 .left (t .letters .ensures ∙ e)) (λ e. c .before .before .before .before .before .before .if7 .left (t .letters .ensures ∙ e)) (λ e. c .before .before .before .before .before .if8 .left (t .letters .ensures ∙ e)) (λ e. c .before .before .before .before .if9 .left (t .letters .ensures ∙ e)) (λ e. c .before .before .before .if10 .left (t .letters .ensures ∙ e)) (λ e. c .before .before .if11 .left (t .letters .ensures ∙ e)) (λ e. c .before .if12 .left (t .letters .ensures ∙ e))) (c .unknown3 .ensures)))

@@ -1,0 +1,48 @@
+/* Reads (and with "rewrite" writes again) each line of FILE, ROUNDS times; bench/count counts its instructions.
+
+       count FILE ROUNDS read | rewrite | nothing */
+#include <stdio.h>
+#include <stdlib.h>
+#include <string.h>
+
+#ifdef OURS
+size_t measured_read(const unsigned char *s, size_t n);
+size_t measured_rewrite(const unsigned char *s, size_t n, unsigned char *out, size_t room);
+#else
+#include "reader.h"
+#endif
+
+static size_t starts[100000], lengths[100000];
+
+int main(int argc, char **argv)
+{
+    size_t lines = 0, sum = 0, n, i, at = 0;
+    unsigned char *text, out[2000];
+    long rounds, r;
+    FILE *f;
+    if (argc != 4 || !(f = fopen(argv[1], "rb"))) return 2;
+    text = malloc(64 << 20);
+    if (!text) return 2;
+    n = fread(text, 1, 64 << 20, f);
+    for (i = 0; i < n && lines < 100000; i++)
+        if (text[i] == '\n') { starts[lines] = at; lengths[lines++] = i - at; at = i + 1; }
+    rounds = atol(argv[2]);
+    for (r = 0; r < rounds; r++)
+        for (i = 0; i < lines; i++) {
+            const unsigned char *s = text + starts[i];
+            if (argv[3][0] == 'n') { sum += s[0]; continue; }
+#ifdef OURS
+            if (!strcmp(argv[3], "rewrite")) sum += measured_rewrite(s, lengths[i], out, sizeof out);
+            else sum += measured_read(s, lengths[i]);
+#else
+            {
+                struct pq_record record;
+                size_t place = 0, hyphens = 0;
+                pq_read(s, lengths[i], &record, &place, &hyphens);
+                sum += place + hyphens + (size_t)((unsigned char *)&record)[i % sizeof record];
+            }
+#endif
+        }
+    printf("%lu %lu %d\n", (unsigned long)lines, (unsigned long)sum, out[0] == 0);
+    return 0;
+}
