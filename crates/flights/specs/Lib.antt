@@ -8,3 +8,4 @@ pub mod Records
 pub mod Checked
 pub mod Deciding
 pub mod Table
+pub mod Formed

@@ -1,6 +1,6 @@
 // Flight records of 768 bytes.
 ghost use mathlib.Core.Path.{_≡_};
-ghost use Prim.Native.Nat.{_+_, _≤_};
+ghost use Prim.Native.Nat.{_+_, _≤_, _<_};
 ghost use lib.ListN.{length, take, drop};
 ghost use Rattle.scan.specs.Bools.{Decides};
 ghost use Rattle.scan.specs.declared.Class.the-variants.{Letter, Octal, Alnum};
@@ -10,7 +10,8 @@ ghost use Rattle.fields.specs.Fields.{timed, in08, in09, in10, in14, in15, rest
 ghost use Rattle.flights.specs.Padding.{trimmed};
 ghost use Rattle.flights.specs.Stretches.{each, passed};
 ghost use Rattle.flights.specs.Flight.{numberAt, flightOf, WellFormed};
-ghost use Rattle.flights.specs.Table.{same as sameB, hasKey, found, lowestFree};
+ghost use Rattle.flights.specs.Formed.{Apart, Below, TableFormed};
+ghost use Rattle.flights.specs.Table.{places, place, same as sameB, hasKey, found, lowestFree};
 ghost use Rattle.flights.specs.Checked.{Used, Texts, Filed, Active};
 use scan::Scan;
 
@@ -280,4 +281,60 @@ pub fn lowest_free(table: &[u8]) -> Place
         i += 1;
     }
     Place::Nowhere
+}
+
+// Whether two records are not both used with one key.
+fn apart<'a>(a: &'a [u8], b: &'a [u8]) -> bool
+    requires { ⌜ (length (now a) ≡ 768) × (length (now b) ≡ 768) ⌝ }
+    ensures { λ r. ⌜ Decides r (Apart (now (a .entry)) (now (b .entry))) ⌝ }
+{
+    if a[0] == 0 {
+        return true;
+    }
+    if b[0] == 0 {
+        return true;
+    }
+    let aircraft = same(text_at(a, 6, 7), text_at(b, 6, 7));
+    let departure = same(text_at(a, 17, 4), text_at(b, 17, 4));
+    let destination = same(text_at(a, 25, 4), text_at(b, 25, 4));
+    !(aircraft & departure & destination)
+}
+
+// Whether place i is apart from every lower one.
+fn apart_from_lower(table: &[u8], i: usize) -> bool
+    requires { ⌜ i < places (now table) ⌝ }
+    ensures { λ r. ⌜ Decides r (Below (λ j. Apart (place j (now (table .entry))) (place i (now (table .entry)))) i) ⌝ }
+{
+    let e = i * 768;
+    let mut ok = true;
+    let mut j = 0;
+    while j < i {
+        let a = j * 768;
+        ok = ok & apart(&table[a..a + 768], &table[e..e + 768]);
+        j += 1;
+    }
+    ok
+}
+
+// Whether every place is well formed and apart from the others.
+fn places_formed(table: &[u8]) -> bool
+    ensures { λ r. ⌜ Decides r (Below (λ i. WellFormed (place i (now (table .entry))) × Below (λ j. Apart (place j (now (table .entry))) (place i (now (table .entry)))) i) (places (now (table .entry)))) ⌝ }
+{
+    let n = table.len() / 768;
+    let mut ok = true;
+    let mut i = 0;
+    while i < n {
+        let a = i * 768;
+        ok = ok & (is_well_formed(&table[a..a + 768]) & apart_from_lower(table, i));
+        i += 1;
+    }
+    ok
+}
+
+// Whether a table is well formed.
+pub fn is_table(table: &[u8]) -> bool
+    ensures { λ r. ⌜ Decides r (TableFormed (now (table .entry))) ⌝ }
+{
+    let n = table.len() / 768;
+    (1 <= n) & (n <= 32) & (table.len() == n * 768) & places_formed(table)
 }
