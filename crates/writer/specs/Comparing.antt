@@ -155,10 +155,6 @@ evenly b [] qs = b
 evenly b (p ∷ ps) [] = b
 evenly b (p ∷ ps) (q ∷ qs) = evenly (b && eqb (p .span .len) (q .span .len)) ps qs
 
-and-assoc : (a b c : Bool) → (a && b) && c ≡ a && (b && c)
-and-assoc true b c = refl
-and-assoc false b c = refl
-
 pub evenly-on : (b : Bool) (ps qs : List Part) → evenly b ps qs ≡ b && evenly true ps qs
 evenly-on true ps qs = refl
 evenly-on false [] qs = refl
@@ -186,9 +182,6 @@ module _ (f g : ℕ → Span) where
   evenly-no : (ns : List ℕ) → ((k : ℕ) → f k .len ≡ g k .len) → evenly true (listed f ns) (listed g ns) ≡ true
   evenly-no [] h = refl
   evenly-no (m ∷ ns) h = evenly-on (eqb (f m .len) (g m .len)) (listed f ns) (listed g ns) ∙ both (eqb (f m .len) (g m .len)) (evenly true (listed f ns) (listed g ns)) (eq-eqb (f m .len) (g m .len) (h m)) (evenly-no ns h)
-
-parts-are-listed : (p : Parts) → partsIn p ≡ listed (λ k. look k (partsIn p)) partNames
-parts-are-listed p = refl
 
 pub lengths-same : (a b : Record) → Decides (evenly true (partsIn (a .parts)) (partsIn (b .parts))) ((k : ℕ) → sizes a k ≡ sizes b k)
 lengths-same a b = record {

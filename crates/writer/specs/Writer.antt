@@ -175,12 +175,6 @@ unfolding among
 look-off [] k e = refl
 look-off (p ∷ ps) k e = let h = neither (eqb k (p .name)) (among k (namesIn ps)) e in rw (h .0) (look-off ps k (h .1))
 
-names-in : (p : Parts) → namesIn (partsIn p) ≡ partNames
-names-in p = refl
-
-parts-listed : (f : ℕ → Span) → partsIn (partsOf f) ≡ listed f partNames
-parts-listed f = refl
-
 pub nameless : (r : Record) (k : ℕ) → among k partNames ≡ false → spanOf r k ≡ none
 nameless r k e = look-off (partsIn (r .parts)) k e
 

@@ -40,9 +40,6 @@ abbrev spansAt : (ℕ → Span) → List ℕ → List Span
 spansAt f [] = []
 spansAt f (n ∷ ns) = f n ∷ spansAt f ns
 
-spans-are : (r : Record) → spans (r .parts) ≡ spansAt (spanOf r) orderedNames
-spans-are r = refl
-
 all-at : (d : List ℕ) (f : ℕ → Span) (ns : List ℕ) → ((k : ℕ) → Inside d (f k)) → AllInside d (spansAt f ns)
 all-at d f [] h = tt
 all-at d f (n ∷ ns) h = (h n, all-at d f ns h)
