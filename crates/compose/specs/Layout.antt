@@ -226,7 +226,7 @@ unfolding among
 one-name n = or-l (eqb n n) false (eq-eqb n n refl)
 
 -- no part of a name that does not occur
-unsaid : (n : ℕ) (g : G) → plain g ≡ true → (w : List ℕ) (cs ds : List Told) → occurs n g ≡ false → Tells g w cs → find n (cs ++ ds) ≡ find n ds
+pub unsaid : (n : ℕ) (g : G) → plain g ≡ true → (w : List ℕ) (cs ds : List Told) → occurs n g ≡ false → Tells g w cs → find n (cs ++ ds) ≡ find n ds
 unfolding occurs plain
 unsaid n eps f w cs ds o r = rw (r .1)
 unsaid n (run c lo hi) f w cs ds o r = rw (r .1)
@@ -244,7 +244,7 @@ unsaid n (field ns g) f w cs ds o r =
 pub absent-part : (n : ℕ) (g : G) → plain g ≡ true → (w : List ℕ) (cs : List Told) → occurs n g ≡ false → Tells g w cs → find n cs ≡ []
 absent-part n g f w cs o r = subst (λ (x : List Told). find n x ≡ []) (append-nil cs) (unsaid n g f w cs [] o r)
 
-find-front : (n : ℕ) (cs ds : List Told) → find n ds ≡ [] → find n (cs ++ ds) ≡ find n cs
+pub find-front : (n : ℕ) (cs ds : List Told) → find n ds ≡ [] → find n (cs ++ ds) ≡ find n cs
 find-front n [] ds e = e
 find-front n (c ∷ cs) ds e = rw (find-front n cs ds e)
 

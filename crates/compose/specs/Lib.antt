@@ -3,3 +3,4 @@ pub mod Layout
 pub mod Order
 pub mod Laying
 pub mod Composed
+pub mod Recorded

@@ -65,7 +65,7 @@ ordered a b c = opened a b c ⨾ referred
 pub record Within (a b : G) : Type 0 where
   pub into : (w : List ℕ) (cs : List Told) → Tells a w cs → Tells b w cs
 
-same : {a : G} → Within a a
+pub same : {a : G} → Within a a
 same = record { into = λ w cs t. t }
 
 -- nothing stands there
@@ -96,13 +96,13 @@ right f = record {
 }
 
 -- one of two
-cases : {a b d : G} → Within a d → Within b d → Within (alt a b) d
+pub cases : {a b d : G} → Within a d → Within b d → Within (alt a b) d
 cases f g = record { into = λ w cs t. ⊎-elim (f .into w cs) (g .into w cs) t }
 
-first : {a b : G} → Within a (alt a b)
+pub first : {a b : G} → Within a (alt a b)
 first = record { into = λ w cs t. inl t }
 
-second : {a b c : G} → Within a c → Within a (alt b c)
+pub second : {a b c : G} → Within a c → Within a (alt b c)
 second f = record { into = λ w cs t. inr (f .into w cs t) }
 
 named : {a b : G} {ns : List ℕ} → Within a b → Within a (field ns b)

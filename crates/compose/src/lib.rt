@@ -57,7 +57,7 @@ fn add_part(text: &mut [u8], p: Pen, d: &[u8], q: Span) -> Pen
 }
 
 // Adds a part with what leads it, where it is there.
-fn add_led<'a>(text: &mut [u8], p: Pen, d: &'a [u8], lead: &'a [u8], a: Span) -> Pen
+pub fn add_led<'a>(text: &mut [u8], p: Pen, d: &'a [u8], lead: &'a [u8], a: Span) -> Pen
     ensures { λ r. ⌜ Adds (now (d .entry)) (now (text .entry)) p (ledBy (now (lead .entry)) (now (d .entry)) a ∷ []) (a ∷ []) (now (text .exit)) r ⌝ }
 {
     if a.len == 0 {
@@ -124,7 +124,7 @@ fn add_07<'a>(text: &mut [u8], p: Pen, d: &'a [u8], lead: &'a [u8], a: Span, b: 
 }
 
 // Two parts, of which the second may be absent: 08, and 13.
-fn add_pair<'a>(text: &mut [u8], p: Pen, d: &'a [u8], lead: &'a [u8], a: Span, b: Span) -> Pen
+pub fn add_pair<'a>(text: &mut [u8], p: Pen, d: &'a [u8], lead: &'a [u8], a: Span, b: Span) -> Pen
     ensures { λ r. ⌜ Adds (now (d .entry)) (now (text .entry)) p (textPair (now (lead .entry)) (now (d .entry)) a b ∷ []) (a ∷ b ∷ []) (now (text .exit)) r ⌝ }
 {
     if both(a, b) == 0 {
@@ -135,7 +135,7 @@ fn add_pair<'a>(text: &mut [u8], p: Pen, d: &'a [u8], lead: &'a [u8], a: Span, b
     add_part(text, p2, d, b)
 }
 
-fn add_09<'a>(
+pub fn add_09<'a>(
     text: &mut [u8],
     p: Pen,
     d: &'a [u8],
@@ -156,7 +156,7 @@ fn add_09<'a>(
     add_part(text, p4, d, c)
 }
 
-fn add_10<'a>(text: &mut [u8], p: Pen, d: &'a [u8], lead: &'a [u8], a: Span, b: Span) -> Pen
+pub fn add_10<'a>(text: &mut [u8], p: Pen, d: &'a [u8], lead: &'a [u8], a: Span, b: Span) -> Pen
     ensures { λ r. ⌜ Adds (now (d .entry)) (now (text .entry)) p (text10 (now (lead .entry)) (now (d .entry)) a b ∷ []) (a ∷ b ∷ []) (now (text .exit)) r ⌝ }
 {
     if both(a, b) == 0 {
@@ -168,7 +168,7 @@ fn add_10<'a>(text: &mut [u8], p: Pen, d: &'a [u8], lead: &'a [u8], a: Span, b: 
     add_part(text, p3, d, b)
 }
 
-fn add_14<'a>(
+pub fn add_14<'a>(
     text: &mut [u8],
     p: Pen,
     d: &'a [u8],
@@ -193,7 +193,7 @@ fn add_14<'a>(
     add_part(text, p6, d, f)
 }
 
-fn add_15<'a>(
+pub fn add_15<'a>(
     text: &mut [u8],
     p: Pen,
     d: &'a [u8],
@@ -214,7 +214,7 @@ fn add_15<'a>(
     add_part(text, p4, d, c)
 }
 
-fn add_alternates(text: &mut [u8], p: Pen, d: &[u8], a: Span, b: Span) -> Pen
+pub fn add_alternates(text: &mut [u8], p: Pen, d: &[u8], a: Span, b: Span) -> Pen
     ensures { λ r. ⌜ Adds (now (d .entry)) (now (text .entry)) p (textAlternates (now (d .entry)) a b ∷ []) (a ∷ b ∷ []) (now (text .exit)) r ⌝ }
 {
     if both(a, b) == 0 {
@@ -246,7 +246,7 @@ fn add_16<'a>(
     add_alternates(text, p3, d, c, e)
 }
 
-fn add_18<'a>(text: &mut [u8], p: Pen, d: &'a [u8], lead: &'a [u8], a: Span, b: Span) -> Pen
+pub fn add_18<'a>(text: &mut [u8], p: Pen, d: &'a [u8], lead: &'a [u8], a: Span, b: Span) -> Pen
     ensures { λ r. ⌜ Adds (now (d .entry)) (now (text .entry)) p (text18 (now (lead .entry)) (now (d .entry)) a b ∷ []) (a ∷ b ∷ []) (now (text .exit)) r ⌝ }
 {
     if both(a, b) == 0 {

@@ -9,3 +9,7 @@ pub mod Checked
 pub mod Deciding
 pub mod Table
 pub mod Formed
+pub mod Decoded
+pub mod Rows
+pub mod Made
+pub mod Holding

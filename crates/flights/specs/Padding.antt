@@ -83,7 +83,7 @@ trimmed-append (x ∷ s) k = λ i. cond (blank-append (x ∷ s) k i) [] (x ∷ t
 pub unpadded : (w : ℕ) (t : List ℕ) → trimmed t ≡ t → trimmed (padded w t) ≡ t
 unpadded w t e = trimmed-append t (w - length t) ∙ e
 
-padded-length : (w : ℕ) (t : List ℕ) → length t ≤ w → length (padded w t) ≡ w
+pub padded-length : (w : ℕ) (t : List ℕ) → length t ≤ w → length (padded w t) ≡ w
 padded-length w t h = omega (arith, length-append t (replicate (w - length t) 32), length-replicate {A = ℕ} (w - length t) 32)
 
 -- DECODING AFTER ENCODING, for any row

@@ -12,8 +12,8 @@ use lib.Seq.{drop-cons, drop-length, getD-take, getD-drop, length-take-le}
 use lib.Dec.{eqb}
 use borrow.Author.Tests.{eqb-true, eq-eqb, ne-eqb}
 use Rattle.scan.specs.Bools.{and-l, and-r, both, Decides}
-use Rattle.flights.specs.declared.Place.{Place}
-use Rattle.flights.specs.declared.Place.the-variants.{At, Nowhere}
+use Rattle.places.specs.declared.Place.{Place}
+use Rattle.places.specs.Search.{firstFrom, countFrom}
 use Rattle.flights.specs.Flight.{flightOf}
 
 abbrev pub places : List ℕ → ℕ
@@ -36,11 +36,6 @@ same (x ∷ a) (y ∷ b) = eqb x y && same a b
 abbrev pub hasKey : List ℕ → List ℕ → List ℕ → List ℕ → Bool
 hasKey aircraft departure destination b = ((not (free b) && same (flightOf b .aircraft) aircraft) && same (flightOf b .departure) departure) && same (flightOf b .destination) destination
 
--- the first of the k places from i on that has what p asks
-unfoldable pub firstFrom : (ℕ → Bool) → ℕ → ℕ → Place
-firstFrom p zero i = Nowhere
-firstFrom p (suc k) i = cond (p i) (At i) (firstFrom p k (i + 1))
-
 -- the lowest free place
 abbrev pub lowestFree : List ℕ → Place
 lowestFree t = firstFrom (λ i. free (place i t)) (places t) 0
@@ -49,23 +44,9 @@ lowestFree t = firstFrom (λ i. free (place i t)) (places t) 0
 abbrev pub found : List ℕ → List ℕ → List ℕ → List ℕ → Place
 found aircraft departure destination t = firstFrom (λ i. hasKey aircraft departure destination (place i t)) (places t) 0
 
--- ONE PLACE FURTHER
-
-module _ (p : ℕ → Bool) (n i : ℕ) where
-  pub first-here : i < n → p i ≡ true → firstFrom p (n - i) i ≡ At i
-  unfolding firstFrom
-  first-here h q = let e : n - i ≡ suc (n - (i + 1)) = omega arith in rw (e, q)
-
-  pub first-next : i < n → p i ≡ false → firstFrom p (n - i) i ≡ firstFrom p (n - (i + 1)) (i + 1)
-  unfolding firstFrom
-  first-next h q = let e : n - i ≡ suc (n - (i + 1)) = omega arith in rw (e, q)
-
-  pub first-none : n ≤ i → firstFrom p (n - i) i ≡ Nowhere
-  unfolding firstFrom
-  first-none h = let e : n - i ≡ 0 = omega arith in rw e
-
-pub from-first : (p : ℕ → Bool) (n : ℕ) → firstFrom p n 0 ≡ firstFrom p (n - 0) 0
-from-first p n = rw sub-zero
+-- how many places are not free
+abbrev pub inUse : List ℕ → ℕ
+inUse t = countFrom (λ i. not (free (place i t))) (places t) 0
 
 -- the status of a place is the table's byte where it starts
 pub status-at : (t : List ℕ) (i : ℕ) → getD (place i t) 0 0 ≡ getD t (i * 768) 0

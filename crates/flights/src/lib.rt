@@ -1,18 +1,23 @@
 // Flight records of 768 bytes.
 ghost use mathlib.Core.Path.{_≡_};
-ghost use Prim.Native.Nat.{_+_, _≤_, _<_};
+ghost use Prim.Native.Nat.{_+_, _*_, _≤_, _<_};
 ghost use lib.ListN.{length, take, drop};
+ghost use mathlib.Core.List.{[], _∷_};
 ghost use Rattle.scan.specs.Bools.{Decides};
 ghost use Rattle.scan.specs.declared.Class.the-variants.{Letter, Octal, Alnum};
 ghost use Rattle.scan.specs.Grammar.{Derives, run};
 ghost use Rattle.scan.specs.Texts.{opt};
 ghost use Rattle.fields.specs.Fields.{timed, in08, in09, in10, in14, in15, rest16, in18};
-ghost use Rattle.flights.specs.Padding.{trimmed};
+ghost use Rattle.flights.specs.Padding.{trimmed, padded, high, low};
 ghost use Rattle.flights.specs.Stretches.{each, passed};
-ghost use Rattle.flights.specs.Flight.{numberAt, flightOf, WellFormed};
-ghost use Rattle.flights.specs.Formed.{Apart, Below, TableFormed};
-ghost use Rattle.flights.specs.Table.{places, place, same as sameB, hasKey, found, lowestFree};
+ghost use Rattle.flights.specs.Flight.{numberAt, flightOf, freeRecord, WellFormed};
+ghost use Rattle.places.specs.Below.{Below};
+ghost use Rattle.flights.specs.Formed.{Apart, TableFormed};
+ghost use Rattle.flights.specs.Table.{places, place, same as sameB, hasKey, found, lowestFree, inUse};
+ghost use Rattle.flights.specs.Made.{blankRecord};
+ghost use Rattle.splice.specs.Splice.{splice};
 ghost use Rattle.flights.specs.Checked.{Used, Texts, Filed, Active};
+use places::Place;
 use scan::Scan;
 
 // Whether every byte is v. It looks at each before it answers: a loop with no way out becomes vector code.
@@ -216,12 +221,6 @@ pub fn is_well_formed(b: &[u8]) -> bool
     is_flight(b)
 }
 
-// Where in a table something is.
-pub enum Place {
-    At(usize),
-    Nowhere,
-}
-
 // Whether two texts are the same. It looks at every byte before it answers.
 fn same(a: &[u8], b: &[u8]) -> bool
     ensures { λ r. ⌜ r ≡ sameB (now (a .entry)) (now (b .entry)) ⌝ }
@@ -283,6 +282,22 @@ pub fn lowest_free(table: &[u8]) -> Place
     Place::Nowhere
 }
 
+// How many places are not free.
+pub fn used(table: &[u8]) -> usize
+    ensures { λ r. ⌜ r ≡ inUse (now (table .entry)) ⌝ }
+{
+    let n = table.len() / 768;
+    let mut count = 0;
+    let mut i = 0;
+    while i < n {
+        if table[i * 768] != 0 {
+            count += 1;
+        }
+        i += 1;
+    }
+    count
+}
+
 // Whether two records are not both used with one key.
 fn apart<'a>(a: &'a [u8], b: &'a [u8]) -> bool
     requires { ⌜ (length (now a) ≡ 768) × (length (now b) ≡ 768) ⌝ }
@@ -337,4 +352,52 @@ pub fn is_table(table: &[u8]) -> bool
 {
     let n = table.len() / 768;
     (1 <= n) & (n <= 32) & (table.len() == n * 768) & places_formed(table)
+}
+
+// WHAT CHANGES A TABLE: each says every byte of it afterwards.
+
+// Makes place i free.
+pub fn free(table: &mut [u8], i: usize)
+    requires { ⌜ i < places (now table) ⌝ }
+    ensures { λ _. ⌜ now (table .exit) ≡ splice (i * 768) freeRecord (now (table .entry)) ⌝ }
+{
+    splice::fill(table, i * 768, 768, 0);
+}
+
+// Makes place i the record of a flight with no texts, no handoff and no offer number.
+pub fn begin(table: &mut [u8], i: usize, status: u8, first: usize)
+    requires { ⌜ (i < places (now table)) × (first ≤ 999) ⌝ }
+    ensures { λ _. ⌜ now (table .exit) ≡ splice (i * 768) (blankRecord status first) (now (table .entry)) ⌝ }
+{
+    let front = [status, 0, (first / 256) as u8, (first % 256) as u8, 0, 0];
+    let texts = splice::put(table, i * 768, &front);
+    let rest = splice::fill(table, texts, 735, b' ');
+    splice::fill(table, rest, 27, 0);
+}
+
+// Writes a text, with blanks up to its width, from byte at of place i on.
+pub fn set_text(table: &mut [u8], i: usize, at: usize, width: usize, s: &[u8])
+    requires { ⌜ (i < places (now table)) × (at + width ≤ 768) × (length (now s) ≤ width) ⌝ }
+    ensures { λ _. ⌜ now (table .exit) ≡ splice (i * 768 + at) (padded width (now (s .entry))) (now (table .entry)) ⌝ }
+{
+    let blanks = width - s.len();
+    let n = splice::put(table, i * 768 + at, s);
+    splice::fill(table, n, blanks, b' ');
+}
+
+// Writes byte at of place i.
+pub fn set_byte(table: &mut [u8], i: usize, at: usize, v: u8)
+    requires { ⌜ (i < places (now table)) × (at < 768) ⌝ }
+    ensures { λ _. ⌜ now (table .exit) ≡ splice (i * 768 + at) (v ∷ []) (now (table .entry)) ⌝ }
+{
+    table[i * 768 + at] = v;
+}
+
+// Writes a number from byte at of place i on, high byte first.
+pub fn set_number(table: &mut [u8], i: usize, at: usize, n: usize)
+    requires { ⌜ (i < places (now table)) × (at + 2 ≤ 768) × (n ≤ 999) ⌝ }
+    ensures { λ _. ⌜ now (table .exit) ≡ splice (i * 768 + at) (high n ∷ low n ∷ []) (now (table .entry)) ⌝ }
+{
+    let bytes = [(n / 256) as u8, (n % 256) as u8];
+    splice::put(table, i * 768 + at, &bytes);
 }

@@ -5,7 +5,7 @@ use Prim.Native.Nat.{ℕ, _+_, _≤_, _<_}
 use native.Mathlib.Nat.{add-assoc}
 use native.Mathlib.Numerals.{add-one}
 use native.Mathlib.Omega.{arith}
-use lib.ListN.{length, take, drop, getD, set, length-append, length-drop}
+use lib.ListN.{length, take, drop, getD, set, replicate, length-append, length-drop, length-replicate, getD-replicate}
 use lib.Seq.{take-length, paste, paste-suc, length-take-le, take-at, drop-at, drop-drop, drop-append-add}
 use Rattle.splice.specs.Splice.{splice, Spliced}
 
@@ -13,6 +13,11 @@ use Rattle.splice.specs.Splice.{splice, Spliced}
 
 pub paste-more : (d : List ℕ) (at : ℕ) (s : List ℕ) (i : ℕ) → at + length s ≤ length d → i < length s → set (paste d at s i) (at + i) (getD s i 0) ≡ paste d at s (i + 1)
 paste-more d at s i h k = rw (add-one, paste-suc d at s i 0 (omega arith) k)
+
+pub fill-more : (d : List ℕ) (at n v i : ℕ) → at + n ≤ length d → i < n → set (paste d at (replicate n v) i) (at + i) v ≡ paste d at (replicate n v) (i + 1)
+fill-more d at n v i h k =
+    let e : length (replicate n v) ≡ n = length-replicate n v in
+    ap (set (paste d at (replicate n v) i) (at + i)) (sym (getD-replicate n i v 0 k)) ∙ paste-more d at (replicate n v) i (omega arith) (omega arith)
 
 pub paste-all : (d : List ℕ) (at : ℕ) (s : List ℕ) (i : ℕ) → i ≡ length s → paste d at s i ≡ splice at s d
 unfolding splice

@@ -27,7 +27,8 @@ use Rattle.message.specs.Reading.{Judged}
 use Rattle.message.specs.Reader.{one-record, derived-read}
 use Rattle.compose.specs.Listed.{numberParts, planParts, restParts, partsIn}
 use Rattle.compose.specs.Composed.{sizes}
-use Rattle.writer.specs.Writer.{partNames, listed, nameless, Alike}
+use Rattle.compose.specs.Recorded.{partNames, listed, nameless}
+use Rattle.writer.specs.Writer.{Alike}
 
 -- THE VARIANTS AS NUMBERS
 

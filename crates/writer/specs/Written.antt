@@ -22,7 +22,8 @@ use Rattle.writer.specs.declared.Writing.{Writing}
 use Rattle.writer.specs.declared.Writing.the-variants.{Written, BreaksRule, NoRoom}
 use Rattle.compose.specs.Listed.{spanOf, Inside}
 use Rattle.writer.specs.Writing.{contentOf, Writes, Wrote}
-use Rattle.writer.specs.Writer.{partNames, nameless, its-inside, text-of, text-short, text-alike, alike-text}
+use Rattle.compose.specs.Recorded.{partNames, nameless, its-inside}
+use Rattle.writer.specs.Writer.{text-of, text-short, text-alike, alike-text}
 use Rattle.compose.specs.Laying.{AllInside, Stands, Adds, start, opening, blocks, spans, join}
 use Rattle.scan.specs.Bools.{or-split, known, Decides}
 use Rattle.writer.specs.Comparing.{Back}

@@ -6,7 +6,8 @@ use Prim.Native.Nat.{ℕ, _≤_, _-_}
 use native.Mathlib.Omega.{arith}
 use Rattle.scan.specs.Bools.{Decides}
 use Rattle.flights.specs.Table.{place, lent, lent-long}
-use Rattle.flights.specs.Formed.{Apart, Below, none-below, one-more, on-places}
+use Rattle.places.specs.Below.{Below, none-below, one-more}
+use Rattle.flights.specs.Formed.{Apart, on-places}
 use Rattle.flights.proofs.apart_from_lower.Statement.{statement}
 use Rattle.flights.proofs.apart_from_lower.Tie as tie
 

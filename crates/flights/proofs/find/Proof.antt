@@ -5,7 +5,8 @@ use mathlib.Core.List.{List}
 use Prim.Native.Nat.{ℕ, _≤_, _-_, _/_}
 use native.Mathlib.Omega.{arith}
 use lib.ListN.{length}
-use Rattle.flights.specs.Table.{place, hasKey, firstFrom, from-first, first-here, first-next, first-none, lent, lent-long}
+use Rattle.places.specs.Search.{firstFrom, from-first, first-here, first-next, first-none}
+use Rattle.flights.specs.Table.{place, hasKey, lent, lent-long}
 use Rattle.flights.proofs.find.Statement.{statement}
 use Rattle.flights.proofs.find.Tie as tie
 

@@ -6,7 +6,8 @@ use native.Mathlib.Omega.{arith}
 use lib.ListN.{length}
 use lib.Dec.{eqb}
 use borrow.Author.Tests.{eq-eqb, ne-eqb}
-use Rattle.flights.specs.Table.{place, free, firstFrom, from-first, first-here, first-next, first-none, status-at}
+use Rattle.places.specs.Search.{firstFrom, from-first, first-here, first-next, first-none}
+use Rattle.flights.specs.Table.{place, free, status-at}
 use Rattle.flights.proofs.lowest_free.Statement.{statement}
 use Rattle.flights.proofs.lowest_free.Tie as tie
 

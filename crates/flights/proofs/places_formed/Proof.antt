@@ -7,7 +7,8 @@ use lib.ListN.{length}
 use Rattle.scan.specs.Bools.{Decides, decides-and}
 use Rattle.flights.specs.Flight.{WellFormed}
 use Rattle.flights.specs.Table.{place, places}
-use Rattle.flights.specs.Formed.{Apart, Below, none-below, one-more, on-place}
+use Rattle.places.specs.Below.{Below, none-below, one-more}
+use Rattle.flights.specs.Formed.{Apart, on-place}
 use Rattle.flights.proofs.places_formed.Statement.{statement}
 use Rattle.flights.proofs.places_formed.Tie as tie
 

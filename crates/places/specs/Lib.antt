@@ -1,0 +1,5 @@
+pub mod Search
+pub mod Below
+pub mod Places
+pub mod Forms
+pub mod Stored
