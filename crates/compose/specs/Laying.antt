@@ -307,20 +307,27 @@ changeSpans p =
     p .aircraft ∷ p .code ∷ p .rules ∷ p .flight ∷ p .count ∷ p .model ∷ p .wake ∷ p .equipment ∷ p .surveillance
     ∷ p .departure ∷ p .time ∷ p .speed ∷ p .level ∷ p .route ∷ p .destination ∷ p .elapsed ∷ p .alternate ∷ p .alternate2 ∷ p .indicator ∷ p .other ∷ []
 
-abbrev pub blocks : List ℕ → List ℕ → Parts → List (List ℕ)
-blocks opening d p =
-    opening
-    ∷ textNumber d (p .number .sender) (p .number .receiver) (p .number .digits)
-    ∷ textReference d (p .reference .sender) (p .reference .receiver) (p .reference .digits)
+-- what follows the number
+abbrev pub restBlocks : List ℕ → Parts → List (List ℕ)
+restBlocks d p =
+    textReference d (p .reference .sender) (p .reference .receiver) (p .reference .digits)
     ∷ (ownBlocks d (p .own) (p .estimate)
     ++ (changeBlocks d (p .changes)
     ++ (ledBy (45 ∷ []) d (p .sector) ∷ ledBy (45 ∷ []) d (p .track) ∷ ledBy (45 ∷ 82 ∷ 77 ∷ 75 ∷ 47 ∷ []) d (p .reason) ∷ (41 ∷ []) ∷ [])))
 
-abbrev pub spans : Parts → List Span
-spans p =
-    p .number .sender ∷ p .number .receiver ∷ p .number .digits
-    ∷ p .reference .sender ∷ p .reference .receiver ∷ p .reference .digits
+abbrev pub restSpans : Parts → List Span
+restSpans p =
+    p .reference .sender ∷ p .reference .receiver ∷ p .reference .digits
     ∷ (ownSpans (p .own) (p .estimate) ++ (changeSpans (p .changes) ++ (p .sector ∷ p .track ∷ p .reason ∷ [])))
+
+abbrev pub blocks : List ℕ → List ℕ → Parts → List (List ℕ)
+blocks opening d p =
+    opening
+    ∷ textNumber d (p .number .sender) (p .number .receiver) (p .number .digits)
+    ∷ restBlocks d p
+
+abbrev pub spans : Parts → List Span
+spans p = p .number .sender ∷ p .number .receiver ∷ p .number .digits ∷ restSpans p
 
 abbrev pub start : Pen
 start = record { at = 0; ok = true }

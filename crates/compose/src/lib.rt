@@ -4,7 +4,7 @@ ghost use mathlib.Core.List.{List, [], _∷_};
 ghost use Prim.Native.Nat.{ℕ};
 ghost use mathlib.Core.Path.{_≡_};
 ghost use Rattle.message.specs.Reading.{cut};
-ghost use Rattle.compose.specs.Laying.{Adds, total, ledBy, textNumber, textReference, text07, textPair, text09, text10, text14, text15, textAlternates, text16, text18, ownBlocks, ownSpans, changeBlocks, changeSpans, start, opening, blocks, spans};
+ghost use Rattle.compose.specs.Laying.{Adds, total, ledBy, textNumber, textReference, text07, textPair, text09, text10, text14, text15, textAlternates, text16, text18, ownBlocks, ownSpans, changeBlocks, changeSpans, restBlocks, restSpans, start, opening, blocks, spans};
 use changes::Plan;
 use message::Kind;
 use scan::Span;
@@ -18,7 +18,7 @@ pub struct Pen {
 }
 
 // Adds bytes.
-fn add(text: &mut [u8], p: Pen, src: &[u8]) -> Pen
+pub fn add(text: &mut [u8], p: Pen, src: &[u8]) -> Pen
     ensures { λ r. ⌜ ((d : List ℕ) → Adds d (now (text .entry)) p (now (src .entry) ∷ []) [] (now (text .exit)) r) ⌝ }
 {
     let at = p.at;
@@ -67,7 +67,7 @@ pub fn add_led<'a>(text: &mut [u8], p: Pen, d: &'a [u8], lead: &'a [u8], a: Span
     add_part(text, p1, d, a)
 }
 
-fn add_number(text: &mut [u8], p: Pen, d: &[u8], a: Span, b: Span, c: Span) -> Pen
+pub fn add_number(text: &mut [u8], p: Pen, d: &[u8], a: Span, b: Span, c: Span) -> Pen
     ensures { λ r. ⌜ Adds (now (d .entry)) (now (text .entry)) p (textNumber (now (d .entry)) a b c ∷ []) (a ∷ b ∷ c ∷ []) (now (text .exit)) r ⌝ }
 {
     let p1 = add_part(text, p, d, a);
@@ -315,7 +315,7 @@ fn add_changes(text: &mut [u8], p: Pen, d: &[u8], o: Plan) -> Pen
 }
 
 // "(" and the letters of the type; of no type there is a text that is not read.
-fn open_text(text: &mut [u8], k: Kind) -> Pen
+pub fn open_text(text: &mut [u8], k: Kind) -> Pen
     ensures { λ r. ⌜ ((d : List ℕ) → Adds d (now (text .entry)) start (opening k ∷ []) [] (now (text .exit)) r) ⌝ }
 {
     let p = Pen { at: 0, ok: true };
@@ -334,19 +334,35 @@ fn open_text(text: &mut [u8], k: Kind) -> Pen
     }
 }
 
+// What follows the number.
+fn add_rest(text: &mut [u8], p: Pen, d: &[u8], q: Parts) -> Pen
+    ensures { λ r. ⌜ Adds (now (d .entry)) (now (text .entry)) p (restBlocks (now (d .entry)) q) (restSpans q) (now (text .exit)) r ⌝ }
+{
+    let r = q.reference;
+    let p1 = add_reference(text, p, d, r.sender, r.receiver, r.digits);
+    let p2 = add_own(text, p1, d, q.own, q.estimate);
+    let p3 = add_changes(text, p2, d, q.changes);
+    let p4 = add_led(text, p3, d, b"-", q.sector);
+    let p5 = add_led(text, p4, d, b"-", q.track);
+    let p6 = add_led(text, p5, d, b"-RMK/", q.reason);
+    add(text, p6, b")")
+}
+
 // Lays out the text that the parts compose.
 pub fn lay(text: &mut [u8], d: &[u8], k: Kind, q: Parts) -> Pen
     ensures { λ r. ⌜ Adds (now (d .entry)) (now (text .entry)) start (blocks (opening k) (now (d .entry)) q) (spans q) (now (text .exit)) r ⌝ }
 {
     let n = q.number;
-    let r = q.reference;
     let p1 = open_text(text, k);
     let p2 = add_number(text, p1, d, n.sender, n.receiver, n.digits);
-    let p3 = add_reference(text, p2, d, r.sender, r.receiver, r.digits);
-    let p4 = add_own(text, p3, d, q.own, q.estimate);
-    let p5 = add_changes(text, p4, d, q.changes);
-    let p6 = add_led(text, p5, d, b"-", q.sector);
-    let p7 = add_led(text, p6, d, b"-", q.track);
-    let p8 = add_led(text, p7, d, b"-RMK/", q.reason);
-    add(text, p8, b")")
+    add_rest(text, p2, d, q)
+}
+
+// Lays out the same text with these bytes in the place of its number.
+pub fn lay_as(text: &mut [u8], number: &[u8], d: &[u8], k: Kind, q: Parts) -> Pen
+    ensures { λ r. ⌜ Adds (now (d .entry)) (now (text .entry)) start (opening k ∷ now (number .entry) ∷ restBlocks (now (d .entry)) q) (restSpans q) (now (text .exit)) r ⌝ }
+{
+    let p1 = open_text(text, k);
+    let p2 = add(text, p1, number);
+    add_rest(text, p2, d, q)
 }

@@ -53,11 +53,11 @@ short14 t d = at-most (opt in14) 27 refl t d
 
 -- THE PARTS
 
-abbrev spansAt : (ℕ → Span) → List ℕ → List Span
+abbrev pub spansAt : (ℕ → Span) → List ℕ → List Span
 spansAt f [] = []
 spansAt f (k ∷ ks) = f k ∷ spansAt f ks
 
-all-inside : (w : List ℕ) (f : ℕ → Span) → ((k : ℕ) → Inside w (f k)) → (ks : List ℕ) → AllInside w (spansAt f ks)
+pub all-inside : (w : List ℕ) (f : ℕ → Span) → ((k : ℕ) → Inside w (f k)) → (ks : List ℕ) → AllInside w (spansAt f ks)
 all-inside w f h [] = tt
 all-inside w f h (k ∷ ks) = (h k, all-inside w f h ks)
 

@@ -3,3 +3,4 @@ pub mod Pieces
 pub mod Said
 pub mod Fitting
 pub mod ByKind
+pub mod Sizes

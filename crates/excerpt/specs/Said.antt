@@ -51,11 +51,11 @@ restful o = cases (record { into = λ w cs t. ([], [], [], [], t .0, t .1, inl (
 -- The record's parts against the one grammar that all types have in common
 
 module _ (w : List ℕ) (r : Record) (j : Judged w Read r) (a b c : ℕ) (t : Tells (ordered a b c) w (its w r j)) where
-  field-said : (ns : List ℕ) (h : G) → Within (kept ns (ordered a b c)) h → fine ns h ≡ true → Derives h (laid h (sizes r) (bytesIn w r))
+  pub field-said : (ns : List ℕ) (h : G) → Within (kept ns (ordered a b c)) h → fine ns h ≡ true → Derives h (laid h (sizes r) (bytesIn w r))
   field-said ns h i y = derived ns (ordered a b c) h h (ordered-plain a b c) i same y w (its w r j) t (sizes r) (bytesIn w r) (its-size w r j) (its-bytes w r j)
 
   -- a part that is a text by itself
-  part-said : (k : ℕ) (g : G) → Within (kept (k ∷ []) (ordered a b c)) (opt (part k g)) → fine (k ∷ []) (opt (part k g)) ≡ true → Derives (opt g) (cut w (spanOf r k))
+  pub part-said : (k : ℕ) (g : G) → Within (kept (k ∷ []) (ordered a b c)) (opt (part k g)) → fine (k ∷ []) (opt (part k g)) ≡ true → Derives (opt g) (cut w (spanOf r k))
   unfolding filled only isNil takesFirst laid occurs names
   part-said k g i y = subst (Derives (opt g)) (own-part w (spanOf r k)) (field-said (k ∷ []) (opt (part k g)) i y)
 
@@ -98,7 +98,7 @@ module _ (w : List ℕ) (r : Record) (j : Judged w Read r) (a b c : ℕ) (t : Te
 -- WHAT IS KEPT OF A MESSAGE THAT WAS READ
 
 module _ (w : List ℕ) (r : Record) (j : Judged w Read r) where
-  abbrev order : (P : Type 0) → ((a b c : ℕ) → Tells (ordered a b c) w (its w r j) → P) → P
+  abbrev pub order : (P : Type 0) → ((a b c : ℕ) → Tells (ordered a b c) w (its w r j) → P) → P
   order P h = of-letters (λ g. Tells g w (its w r j) → P) h (kindOf (lettersOf w)) (its-order w r j .order)
 
   pub own-said : Said (textsOf w (r .parts .own))

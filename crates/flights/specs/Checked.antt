@@ -14,9 +14,9 @@ use Rattle.scan.specs.declared.Class.the-variants.{Letter, Octal, Alnum}
 use Rattle.scan.specs.Grammar.{G, Derives, run}
 use Rattle.scan.specs.Texts.{opt}
 use Rattle.fields.specs.Fields.{timed, in08, in09, in10, in14, in15, rest16, in18}
-use Rattle.flights.specs.Padding.{trimmed, high, low, total, inRow, cutRow, cut-row, row-length, row-take, high-of, low-of}
-use Rattle.flights.specs.Stretches.{each, each-is}
-use Rattle.flights.specs.Flight.{Status, filed, active, Handoff, none, offered, accepted, Flight, statusByte, handoffByte, statusOf, handoffOf, widths, textsOf, recordOf, freeRecord, numberAt, flightOf, Sound, WellFormed}
+use Rattle.places.specs.Bytes.{high, low, high-of, low-of, each, each-is, numberAt}
+use Rattle.flights.specs.Padding.{trimmed, total, inRow, cutRow, cut-row, row-length, row-take}
+use Rattle.flights.specs.Flight.{Status, filed, active, Handoff, none, offered, accepted, Flight, statusByte, handoffByte, statusOf, handoffOf, widths, textsOf, recordOf, freeRecord, flightOf, Sound, WellFormed}
 use Rattle.flights.specs.Records.{texts-neat, status-back, handoff-back, flight-back}
 
 -- the bytes that are no text have values that they may have
@@ -79,18 +79,9 @@ pub empty-text : (t : List ℕ) → Decides (eqb (length t) 0) (t ≡ [])
 empty-text [] = record { yes = λ e. refl; no = λ e. refl }
 empty-text (x ∷ t) = record { yes = λ e. absurd (omega (arith, eqb-true (length (x ∷ t)) 0 e)); no = λ e. absurd (nil≢cons (sym e)) }
 
-pub at-most : (m n : ℕ) → Decides (leb m n) (m ≤ n)
-at-most m n = record { yes = leb-true m n; no = le-leb m n }
-
 -- of the text itself
 pub on : {b : Bool} {t u : List ℕ} (g : G) → t ≡ u → Decides b (Derives g t) → Decides b (Derives g u)
 on {b} g e d = subst (λ (x : List ℕ). Decides b (Derives g x)) e d
-
-pub equals-on : (k : ℕ) {m n : ℕ} → m ≡ n → Decides (eqb m k) (n ≡ k)
-equals-on k {m} e = subst (λ (x : ℕ). Decides (eqb m k) (x ≡ k)) e (equals m k)
-
-pub at-most-on : (k : ℕ) {m n : ℕ} → m ≡ n → Decides (leb m k) (n ≤ k)
-at-most-on k {m} e = subst (λ (x : ℕ). Decides (leb m k) (x ≤ k)) e (at-most m k)
 
 pub empty-on : {t u : List ℕ} → t ≡ u → Decides (eqb (length t) 0) (u ≡ [])
 empty-on {t} e = subst (λ (x : List ℕ). Decides (eqb (length t) 0) (x ≡ [])) e (empty-text t)

@@ -9,8 +9,8 @@ use lib.ListN.{length, getD, take, drop, replicate, length-append, length-drop, 
 use lib.Seq.{take-all}
 use Rattle.scan.specs.Bools.{Decides, decides-as, decides-by}
 use Rattle.flights.specs.Padding.{inRow, row-length}
-use Rattle.flights.specs.Stretches.{each, each-is}
-use Rattle.flights.specs.Flight.{Status, filed, active, Handoff, none, offered, accepted, Flight, statusByte, handoffByte, statusOf, handoffOf, widths, textsOf, recordOf, numberAt, flightOf, Timed, Estimated, Offered, Sound, WellFormed}
+use Rattle.places.specs.Bytes.{each, each-is, numberAt}
+use Rattle.flights.specs.Flight.{Status, filed, active, Handoff, none, offered, accepted, Flight, statusByte, handoffByte, statusOf, handoffOf, widths, textsOf, recordOf, flightOf, Timed, Estimated, Offered, Sound, WellFormed}
 use Rattle.flights.specs.Records.{texts-neat}
 use Rattle.flights.specs.Checked.{Shaped, Used, Texts, Filed, Active, record-shaped, used-is}
 

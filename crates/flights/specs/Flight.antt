@@ -10,7 +10,8 @@ use Rattle.scan.specs.declared.Class.the-variants.{Letter, Octal, Alnum}
 use Rattle.scan.specs.Grammar.{run, Derives}
 use Rattle.scan.specs.Texts.{opt}
 use Rattle.fields.specs.Fields.{timed, in08, in09, in10, in14, in15, rest16, in18}
-use Rattle.flights.specs.Padding.{high, low, inRow, cutRow}
+use Rattle.places.specs.Bytes.{high, low, numberAt}
+use Rattle.flights.specs.Padding.{inRow, cutRow}
 
 -- a free place holds no flight
 pub data Status : Type 0 where
@@ -77,9 +78,6 @@ statusOf b = cond (eqb b 1) filed active
 
 unfoldable pub handoffOf : ℕ → Handoff
 handoffOf b = cond (eqb b 0) none (cond (eqb b 1) offered accepted)
-
-abbrev pub numberAt : ℕ → List ℕ → ℕ
-numberAt at b = getD b at 0 * 256 + getD b (at + 1) 0
 
 abbrev pub nth : ℕ → List (List ℕ) → List ℕ
 nth k ts = getD ts k []

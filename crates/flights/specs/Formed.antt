@@ -12,7 +12,8 @@ use borrow.Author.Tests.{eqb-true, eq-eqb, ltb-true, ltb-false, not-true}
 use Rattle.scan.specs.Bools.{known, and-l, and-r, both, Decides, decides-and, decides-as}
 use Rattle.places.specs.Below.{Below}
 use Rattle.flights.specs.Flight.{flightOf, WellFormed}
-use Rattle.flights.specs.Table.{places, place, free, same, same-is, lent}
+use Rattle.places.specs.Bytes.{same, same-is}
+use Rattle.flights.specs.Table.{places, place, free, lent}
 
 -- aircraft, departure and destination
 pub record SameKey (a b : List ℕ) : Type 0 where

@@ -9,7 +9,8 @@ use lib.Seq.{drop-cons, drop-length}
 use Rattle.splice.specs.Splice.{splice}
 use Rattle.splice.specs.Inside.{splice-behind, splice-same, splice-inside}
 use Rattle.places.specs.Places.{set as setPlace}
-use Rattle.flights.specs.Padding.{high, low, padded, padded-length, inRow}
+use Rattle.places.specs.Bytes.{high, low}
+use Rattle.flights.specs.Padding.{padded, padded-length, inRow}
 use Rattle.flights.specs.Flight.{Status, filed, active, Handoff, none, offered, accepted, Flight, statusByte, handoffByte, widths, textsOf, recordOf, nth, flightBy, Sound}
 use Rattle.flights.specs.Table.{places, place}
 use Rattle.flights.specs.Rows.{AllFit, row-fit, row-put, row-within, widthIn, startIn}

@@ -1,15 +1,15 @@
 -- Texts padded with blanks, and numbers of two bytes.
 use mathlib.Core.Path.{_≡_, refl, sym, ap, _∙_}
-use mathlib.Core.Logic.{_⊎_, inl, inr, ⊎-elim}
-use mathlib.Core.Bool.{Bool, true, false, cond, _&&_, false≢true}
-use mathlib.Core.List.{List, [], _∷_, _++_, append-nil, append-assoc}
-use Prim.Native.Nat.{ℕ, zero, suc, _+_, _-_, _*_, _/_, _%_, _≤_, _<_}
+use mathlib.Core.Logic.{_⊎_, inl, inr}
+use mathlib.Core.Bool.{Bool, true, false, cond, _&&_}
+use mathlib.Core.List.{List, [], _∷_, _++_, append-assoc}
+use Prim.Native.Nat.{ℕ, zero, suc, _+_, _-_, _≤_}
 use native.Mathlib.Omega.{arith}
-use lib.ListN.{length, take, drop, replicate, length-append, length-replicate, length-drop, take-append-drop}
+use lib.ListN.{length, take, drop, replicate, length-append, length-replicate, length-drop}
 use lib.Seq.{take-append-seam, drop-append-seam, length-take-le, take-add, drop-drop}
 use lib.Dec.{eqb}
 use borrow.Author.Tests.{eqb-true}
-use Rattle.scan.specs.Bools.{and-l, and-r, both, known}
+use Rattle.scan.specs.Bools.{and-l, and-r, known}
 
 -- a text at the left of w bytes, the rest blank (32)
 abbrev pub padded : ℕ → List ℕ → List ℕ
@@ -141,20 +141,3 @@ row-take (w ∷ ws) b h =
     let l : length (take w b) ≡ w = length-take-le w b (omega arith) in
     let m : total ws ≤ length (drop w b) = omega (arith, length-drop w b) in
     (λ i. padded-back w (take w b) l i ++ row-take ws (drop w b) m i) ∙ sym (take-add w (total ws) b)
-
--- NUMBERS, high byte first
-
-abbrev pub high : ℕ → ℕ
-high n = n / 256
-
-abbrev pub low : ℕ → ℕ
-low n = n % 256
-
-pub two-bytes : (n : ℕ) → high n * 256 + low n ≡ n
-two-bytes n = omega arith
-
-pub high-of : (a b : ℕ) → b < 256 → high (a * 256 + b) ≡ a
-high-of a b h = omega arith
-
-pub low-of : (a b : ℕ) → b < 256 → low (a * 256 + b) ≡ b
-low-of a b h = omega arith

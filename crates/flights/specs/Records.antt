@@ -10,9 +10,10 @@ use Rattle.scan.specs.Grammar.{isIn, run}
 use Rattle.scan.specs.Texts.{opt}
 use Rattle.scan.specs.Tests.{nullable, longest}
 use Rattle.fields.specs.Fields.{in08, counted, in09, in10, hour, minute, timed, level3, level4, levelled, bearing, bearingFrom, degrees, minutes, pointed, in14, after15, in15, alternates, rest16, inThree18, inFour18, in18}
-use Rattle.flights.specs.Padding.{trimmed, Neat, AllNeat, cut-row, row-back, two-bytes}
+use Rattle.places.specs.Bytes.{two-bytes, numberAt}
+use Rattle.flights.specs.Padding.{trimmed, Neat, AllNeat, cut-row, row-back}
 use Rattle.flights.specs.Ends.{unblank, neat}
-use Rattle.flights.specs.Flight.{Status, filed, active, Handoff, none, offered, accepted, Flight, statusByte, handoffByte, statusOf, handoffOf, widths, textsOf, recordOf, numberAt, flightBy, flightOf, Timed, Estimated, Sound}
+use Rattle.flights.specs.Flight.{Status, filed, active, Handoff, none, offered, accepted, Flight, statusByte, handoffByte, statusOf, handoffOf, widths, textsOf, recordOf, flightBy, flightOf, Timed, Estimated, Sound}
 
 time-neat : (s : Status) (t : List ℕ) → Timed s t → Neat 4 t
 unfolding unblank longest nullable hour minute timed

@@ -8,7 +8,7 @@ use lib.ListN.{length, take, drop, getD, replicate}
 use lib.Seq.{take-add, take-suc, take-length}
 use borrow.Author.Tests.{ne-eqb}
 use Rattle.flights.specs.Padding.{trimmed, trimmed-append}
-use Rattle.flights.specs.Stretches.{each, each-is}
+use Rattle.places.specs.Bytes.{each, each-is}
 use Rattle.flights.specs.Ends.{trimmed-last}
 
 module _ (s : List ℕ) where

@@ -8,30 +8,18 @@ ghost use Rattle.scan.specs.declared.Class.the-variants.{Letter, Octal, Alnum};
 ghost use Rattle.scan.specs.Grammar.{Derives, run};
 ghost use Rattle.scan.specs.Texts.{opt};
 ghost use Rattle.fields.specs.Fields.{timed, in08, in09, in10, in14, in15, rest16, in18};
-ghost use Rattle.flights.specs.Padding.{trimmed, padded, high, low};
-ghost use Rattle.flights.specs.Stretches.{each, passed};
-ghost use Rattle.flights.specs.Flight.{numberAt, flightOf, freeRecord, WellFormed};
-ghost use Rattle.places.specs.Below.{Below};
-ghost use Rattle.flights.specs.Formed.{Apart, TableFormed};
-ghost use Rattle.flights.specs.Table.{places, place, same as sameB, hasKey, found, lowestFree, inUse};
-ghost use Rattle.flights.specs.Made.{blankRecord};
 ghost use Rattle.splice.specs.Splice.{splice};
+ghost use Rattle.places.specs.Bytes.{each, numberAt, high, low};
+ghost use Rattle.places.specs.Below.{Below};
+ghost use Rattle.flights.specs.Padding.{trimmed, padded};
+ghost use Rattle.flights.specs.Stretches.{passed};
+ghost use Rattle.flights.specs.Flight.{flightOf, freeRecord, WellFormed};
+ghost use Rattle.flights.specs.Formed.{Apart, TableFormed};
+ghost use Rattle.flights.specs.Table.{places, place, hasKey, found, lowestFree, inUse};
+ghost use Rattle.flights.specs.Made.{blankRecord};
 ghost use Rattle.flights.specs.Checked.{Used, Texts, Filed, Active};
 use places::Place;
 use scan::Scan;
-
-// Whether every byte is v. It looks at each before it answers: a loop with no way out becomes vector code.
-fn all_are(s: &[u8], v: u8) -> bool
-    ensures { λ r. ⌜ r ≡ each v (now (s .entry)) ⌝ }
-{
-    let mut ok = true;
-    let mut i = 0;
-    while i < s.len() {
-        ok = ok & (s[i] == v);
-        i += 1;
-    }
-    ok
-}
 
 // How long a text is without the blanks at its right. These are passed by sixteen as long as there are so many.
 fn text_length(s: &[u8]) -> usize
@@ -39,7 +27,7 @@ fn text_length(s: &[u8]) -> usize
 {
     let mut n = s.len();
     while 16 <= n {
-        if !all_are(&s[n - 16..n], b' ') {
+        if !places::all_are(&s[n - 16..n], b' ') {
             break;
         }
         n -= 16;
@@ -54,7 +42,7 @@ fn text_length(s: &[u8]) -> usize
 }
 
 // The text in some bytes of a record.
-fn text_at(b: &[u8], at: usize, width: usize) -> &[u8]
+pub fn text_at(b: &[u8], at: usize, width: usize) -> &[u8]
     requires { ⌜ at + width ≤ length (now b) ⌝ }
     ensures { λ r. ⌜ now r ≡ trimmed (take width (drop at (now (b .entry)))) ⌝ }
 {
@@ -144,14 +132,6 @@ fn is_18(t: &[u8]) -> bool
     whole(f.end, t)
 }
 
-// A number of two bytes, high byte first.
-fn number_at(b: &[u8], at: usize) -> usize
-    requires { ⌜ at + 2 ≤ length (now b) ⌝ }
-    ensures { λ r. ⌜ r ≡ numberAt at (now (b .entry)) ⌝ }
-{
-    scan::wide(b[at]) * 256 + scan::wide(b[at + 1])
-}
-
 // Whether the texts are sound that every flight has.
 fn texts_sound(b: &[u8]) -> bool
     requires { ⌜ length (now b) ≡ 768 ⌝ }
@@ -175,7 +155,10 @@ fn filed_sound(b: &[u8]) -> bool
     ensures { λ r. ⌜ Decides r (Filed (now (b .entry))) ⌝ }
 {
     let estimate = text_at(b, 100, 27);
-    (b[1] == 0) & (number_at(b, 4) == 0) & is_time(text_at(b, 21, 4)) & (estimate.len() == 0)
+    (b[1] == 0)
+        & (places::number_at(b, 4) == 0)
+        & is_time(text_at(b, 21, 4))
+        & (estimate.len() == 0)
 }
 
 // And an active one: a time or none, and field 14.
@@ -185,7 +168,7 @@ fn active_sound(b: &[u8]) -> bool
 {
     let time = text_at(b, 21, 4);
     (b[1] <= 2)
-        & (number_at(b, 4) <= 999)
+        & (places::number_at(b, 4) <= 999)
         & ((time.len() == 0) | is_time(time))
         & is_14(text_at(b, 100, 27))
 }
@@ -196,9 +179,9 @@ fn is_flight(b: &[u8]) -> bool
     ensures { λ r. ⌜ Decides r (Used (now (b .entry))) ⌝ }
 {
     let status = b[0];
-    let first = number_at(b, 2);
+    let first = places::number_at(b, 2);
     let texts = texts_sound(b);
-    let rest = all_are(&b[741..768], 0);
+    let rest = places::all_are(&b[741..768], 0);
     if status == 1 {
         return (first <= 999) & texts & rest & filed_sound(b);
     }
@@ -216,25 +199,9 @@ pub fn is_well_formed(b: &[u8]) -> bool
         return false;
     }
     if b[0] == 0 {
-        return all_are(b, 0);
+        return places::all_are(b, 0);
     }
     is_flight(b)
-}
-
-// Whether two texts are the same. It looks at every byte before it answers.
-fn same(a: &[u8], b: &[u8]) -> bool
-    ensures { λ r. ⌜ r ≡ sameB (now (a .entry)) (now (b .entry)) ⌝ }
-{
-    if a.len() != b.len() {
-        return false;
-    }
-    let mut ok = true;
-    let mut i = 0;
-    while i < a.len() {
-        ok = ok & (a[i] == b[i]);
-        i += 1;
-    }
-    ok
 }
 
 // Whether a used record has a key.
@@ -245,10 +212,10 @@ fn has_key(b: &[u8], aircraft: &[u8], departure: &[u8], destination: &[u8]) -> b
     if b[0] == 0 {
         return false;
     }
-    if !same(text_at(b, 6, 7), aircraft) {
+    if !places::same(text_at(b, 6, 7), aircraft) {
         return false;
     }
-    same(text_at(b, 17, 4), departure) & same(text_at(b, 25, 4), destination)
+    places::same(text_at(b, 17, 4), departure) & places::same(text_at(b, 25, 4), destination)
 }
 
 // The lowest place with a key.
@@ -309,9 +276,9 @@ fn apart<'a>(a: &'a [u8], b: &'a [u8]) -> bool
     if b[0] == 0 {
         return true;
     }
-    let aircraft = same(text_at(a, 6, 7), text_at(b, 6, 7));
-    let departure = same(text_at(a, 17, 4), text_at(b, 17, 4));
-    let destination = same(text_at(a, 25, 4), text_at(b, 25, 4));
+    let aircraft = places::same(text_at(a, 6, 7), text_at(b, 6, 7));
+    let departure = places::same(text_at(a, 17, 4), text_at(b, 17, 4));
+    let destination = places::same(text_at(a, 25, 4), text_at(b, 25, 4));
     !(aircraft & departure & destination)
 }
 

@@ -1,7 +1,12 @@
 // The head of a link: who the two ends are, the next number to give and the highest that was received. It goes in whole and
 // comes back whole.
 ghost use mathlib.Core.Path.{_≡_};
+ghost use Rattle.scan.specs.Bools.{Decides};
+ghost use Rattle.scan.specs.declared.Class.the-variants.{Letter};
+ghost use Rattle.scan.specs.Grammar.{Derives, run};
 ghost use Rattle.head.specs.Head.{after, standing, received, given};
+ghost use Rattle.head.specs.Sound.{HeadFormed};
+use scan::Scan;
 
 pub struct Head {
     pub ours: [u8; 4],
@@ -28,6 +33,14 @@ fn following(n: usize) -> usize
     ensures { λ r. ⌜ r ≡ after n ⌝ }
 {
     (n % 1000 + 1) % 1000
+}
+
+// Whether a name is of four letters.
+fn is_name(t: &[u8]) -> bool
+    ensures { λ r. ⌜ Decides r (Derives (run Letter 4 4) (now (t .entry))) ⌝ }
+{
+    let q = scan::letters(t, Scan { next: 0, ok: true }, 4);
+    q.ok & (q.next == t.len())
 }
 
 impl Head {
@@ -64,5 +77,17 @@ impl Head {
     {
         self.highest = n;
         self
+    }
+
+    // Whether the head is well formed.
+    pub fn is_sound(self) -> bool
+        ensures { λ r. ⌜ Decides r (HeadFormed self) ⌝ }
+    {
+        let a = self.ours;
+        let b = self.partners;
+        let same = (a[0] == b[0]) & (a[1] == b[1]) & (a[2] == b[2]) & (a[3] == b[3]);
+        let ours = is_name(&a);
+        let partners = is_name(&b);
+        ours & partners & !same & (self.next <= 999) & (self.highest <= 999)
     }
 }

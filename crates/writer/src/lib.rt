@@ -176,7 +176,7 @@ fn alike(a: Record, b: Record) -> bool
 }
 
 // Whether a text reads back as a record: then its parts are the record's, since they were laid out from these.
-fn reads_back(t: &[u8], r: Record) -> bool
+pub fn reads_back(t: &[u8], r: Record) -> bool
     ensures { λ b. ⌜ Decides b (Back (now (t .entry)) r) ⌝ }
 {
     let q = message::read(t);

@@ -7,16 +7,10 @@ use Rattle.compose.proofs.lay.Tie as tie
 
 laid : tie.Need-returns
 laid c =
-    let a = c .before .before .before .before .before .before .before .before .before .before .before .before .before .before .before .before .before .before .before .before .before .before .before .before .before .before .before .before .before .before .before .before .before .before .before .before .before .before .before .before .before .before .before .before .args in
-    then (c .before .before .before .before .before .before .before .before .before .before .before .before .before .before .before .before .before .before .before .before .before .before .before .before .before .before .before .before .before .before .before .before .before .before .before .before .before .before .open-text .ensures (a .d .now))
-    (then (c .before .before .before .before .before .before .before .before .before .before .before .before .before .before .before .before .before .before .before .before .before .before .before .before .before .before .before .before .before .before .before .before .before .before .add-number .ensures)
-    (then (c .before .before .before .before .before .before .before .before .before .before .before .before .before .before .before .before .before .before .before .before .before .before .before .before .before .before .before .before .before .before .add-reference .ensures)
-    (then (c .before .before .before .before .before .before .before .before .before .before .before .before .before .before .before .before .before .before .before .before .before .before .before .before .before .before .add-own .ensures)
-    (then (c .before .before .before .before .before .before .before .before .before .before .before .before .before .before .before .before .before .before .before .before .before .before .add-changes .ensures)
-    (then (c .before .before .before .before .before .before .before .before .before .before .before .before .before .before .before .before .before .add-led .ensures)
-    (then (c .before .before .before .before .before .before .before .before .before .before .before .before .add-led2 .ensures)
-    (then (c .before .before .before .before .before .before .before .add-led3 .ensures)
-    (c .before .before .add .ensures (a .d .now)))))))))
+    let a = c .before .before .before .before .before .before .before .before .before .before .before .before .before .before .before .args in
+    then (c .before .before .before .before .before .before .before .before .before .before .open-text .ensures (a .d .now))
+    (then (c .before .before .before .before .before .before .add-number .ensures)
+    (c .before .before .add-rest .ensures))
 
 pub lay-spec : {M : Type 1} → statement M
 lay-spec =
@@ -25,15 +19,5 @@ lay-spec =
     (λ c κs. search needs)
     (λ c κs. search needs)
     (λ c κs. search needs)
-    (λ c κs. search needs)
-    (λ c κs. search needs)
     (λ c. search needs)
-    (λ c κs. search needs)
-    (λ c. search needs)
-    (λ c κs. search needs)
-    (λ c. search needs)
-    (λ c κs. search needs)
-    (λ c. search needs)
-    (λ c κs. search needs)
-    (λ c. laid c .size)
     (λ c. laid c))

@@ -3,7 +3,8 @@ use borrow.Author.Needs.{needs}
 use lib.ListN.{getD}
 use Rattle.scan.specs.Bools.{decides-and, decides-or}
 use Rattle.fields.specs.Fields.{timed, in14}
-use Rattle.flights.specs.Checked.{on, at-most, at-most-on, empty-on}
+use Rattle.places.specs.Bytes.{at-most, at-most-on}
+use Rattle.flights.specs.Checked.{on, empty-on}
 use Rattle.flights.proofs.active_sound.Statement.{statement}
 use Rattle.flights.proofs.active_sound.Tie as tie
 

@@ -5,7 +5,7 @@ use Prim.Native.Nat.{_+_, _≤_}
 use native.Mathlib.Omega.{arith}
 use lib.ListN.{length}
 use borrow.Author.Tests.{eq-eqb, ne-eqb}
-use Rattle.flights.specs.Table.{same}
+use Rattle.places.specs.Bytes.{same}
 use Rattle.flights.specs.Formed.{free-apart, other-free-apart, used-apart}
 use Rattle.flights.proofs.apart.Statement.{statement}
 use Rattle.flights.proofs.apart.Tie as tie

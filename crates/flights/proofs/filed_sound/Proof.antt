@@ -3,7 +3,8 @@ use borrow.Author.Needs.{needs}
 use lib.ListN.{getD}
 use Rattle.scan.specs.Bools.{decides-and, equals}
 use Rattle.fields.specs.Fields.{timed}
-use Rattle.flights.specs.Checked.{on, equals-on, empty-on}
+use Rattle.places.specs.Bytes.{equals-on}
+use Rattle.flights.specs.Checked.{on, empty-on}
 use Rattle.flights.proofs.filed_sound.Statement.{statement}
 use Rattle.flights.proofs.filed_sound.Tie as tie
 

@@ -5,7 +5,8 @@ use mathlib.Core.Bool.{_&&_}
 use mathlib.Core.List.{List}
 use Prim.Native.Nat.{ℕ}
 use borrow.Author.Tests.{eq-eqb, ne-eqb, not-true, not-false}
-use Rattle.flights.specs.Table.{same, key-free, key-other, key-rest}
+use Rattle.places.specs.Bytes.{same}
+use Rattle.flights.specs.Table.{key-free, key-other, key-rest}
 use Rattle.flights.proofs.has_key.Statement.{statement}
 use Rattle.flights.proofs.has_key.Tie as tie
 

@@ -5,7 +5,8 @@ use native.Mathlib.Omega.{arith}
 use Prim.Native.Nat.{_<_}
 use lib.ListN.{getD}
 use Rattle.scan.specs.Bools.{decides-and}
-use Rattle.flights.specs.Checked.{used-is, at-most-on}
+use Rattle.places.specs.Bytes.{at-most-on}
+use Rattle.flights.specs.Checked.{used-is}
 use Rattle.flights.specs.Deciding.{rest-on, filed-is, active-is, other-status}
 use Rattle.flights.proofs.is_flight.Statement.{statement}
 use Rattle.flights.proofs.is_flight.Tie as tie

@@ -3,7 +3,7 @@ use borrow.Author.Needs.{needs}
 use Prim.Native.Nat.{_*_}
 use lib.ListN.{length}
 use Rattle.scan.specs.Bools.{equals}
-use Rattle.flights.specs.Checked.{at-most}
+use Rattle.places.specs.Bytes.{at-most}
 use Rattle.flights.specs.Table.{places}
 use Rattle.flights.specs.Formed.{table-is}
 use Rattle.flights.proofs.is_table.Statement.{statement}

@@ -1,13 +1,13 @@
--- `flights::all_are` meets its contract.
+-- `places::all_are` meets its contract.
 use borrow.Author.Needs.{needs}
 use mathlib.Core.Path.{_≡_, refl}
 use mathlib.Core.Bool.{_&&_}
 use Prim.Native.Nat.{_≤_, _-_}
 use native.Mathlib.Omega.{arith}
 use lib.ListN.{length, drop}
-use Rattle.flights.specs.Stretches.{each, each-more, each-done}
-use Rattle.flights.proofs.all_are.Statement.{statement}
-use Rattle.flights.proofs.all_are.Tie as tie
+use Rattle.places.specs.Bytes.{each, each-more, each-done}
+use Rattle.places.proofs.all_are.Statement.{statement}
+use Rattle.places.proofs.all_are.Tie as tie
 
 abbrev Inv-loop : tie.InvT-loop
 Inv-loop s v ok₀ i₀ ok i = (i ≤ length s) × (each v s ≡ (ok && each v (drop i s)))

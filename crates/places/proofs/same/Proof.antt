@@ -1,13 +1,13 @@
--- `flights::same` meets its contract.
+-- `places::same` meets its contract.
 use borrow.Author.Needs.{needs}
 use mathlib.Core.Path.{_≡_, refl, sym}
 use mathlib.Core.Bool.{_&&_}
 use Prim.Native.Nat.{_≤_, _-_}
 use native.Mathlib.Omega.{arith}
 use lib.ListN.{length, drop}
-use Rattle.flights.specs.Table.{same, same-more, same-done, same-length}
-use Rattle.flights.proofs.same.Statement.{statement}
-use Rattle.flights.proofs.same.Tie as tie
+use Rattle.places.specs.Bytes.{same, same-more, same-done, same-length}
+use Rattle.places.proofs.same.Statement.{statement}
+use Rattle.places.proofs.same.Tie as tie
 
 abbrev Inv-loop : tie.InvT-loop
 Inv-loop a b ok₀ i₀ ok i = (i ≤ length a) × (same a b ≡ (ok && same (drop i a) (drop i b)))

@@ -1,0 +1,115 @@
+-- The number of a message that was read, its reference and its field 31: what their bytes are, and how large the figures.
+use mathlib.Core.Path.{_≡_, refl, sym, ap, _∙_, subst}
+use mathlib.Core.Logic.{⊎-elim}
+use mathlib.Core.Bool.{true}
+use mathlib.Core.List.{List, [], _∷_}
+use Prim.Native.Nat.{ℕ, zero, suc, _+_, _-_, _≤_, _<_}
+use native.Mathlib.Omega.{arith}
+use lib.ListN.{length, getD, take, drop}
+use lib.Seq.{getD-take, getD-drop}
+use lib.Dec.{leb}
+use borrow.Author.Tests.{leb-true}
+use Rattle.scan.specs.Bools.{and-l, and-r}
+use Rattle.scan.specs.declared.Span.{Span}
+use Rattle.scan.specs.declared.Class.the-variants.{Letter, Digit}
+use Rattle.scan.specs.Grammar.{G, run, words, part, isIn, all, Derives}
+use Rattle.scan.specs.Texts.{opt}
+use Rattle.scan.specs.Scanner.{among, occurs}
+use Rattle.scan.specs.Tests.{nullable, clear, apart, fixed, heads, differ, offLeaf, off, names, strange, covers, plain}
+use Rattle.fields.specs.Names as n
+use Rattle.fields.specs.Fields.{inNumbered, in07, in08, counted, in09, in10, hour, minute, timed, in13, in13o, level3, level4, levelled, bearing, bearingFrom, degrees, minutes, pointed, in14, after15, in15, alternates, in16, inThree18, inFour18, in18}
+use Rattle.message.specs.declared.Record.{Record}
+use Rattle.message.specs.declared.Verdict.the-variants.{Read}
+use Rattle.message.specs.Record.{figure, figureIn}
+use Rattle.message.specs.Reading.{cut, Judged}
+use Rattle.compose.specs.Layout.{filled, only, isNil, takesFirst, first, laid, sure, single, pieces, sameBool, samePieces, even, told, Tells}
+use Rattle.compose.specs.Order.{ordered, Within, same}
+use Rattle.compose.specs.Listed.{spanOf}
+use Rattle.compose.specs.Recorded.{its, its-inside, cut-size}
+use Rattle.excerpt.specs.Pieces.{kept, fine}
+use Rattle.excerpt.specs.Said.{field-said, part-said, order}
+
+module _ (w : List ℕ) (r : Record) (j : Judged w Read r) (a b c : ℕ) (t : Tells (ordered a b c) w (its w r j)) where
+  -- a part that every message has
+  sure-part : (k : ℕ) (g : G) → Within (kept (k ∷ []) (ordered a b c)) (part k g) → fine (k ∷ []) (part k g) ≡ true → Derives g (cut w (spanOf r k))
+  unfolding laid
+  sure-part k g i y = field-said w r j a b c t (k ∷ []) (part k g) i y
+
+  number-ordered : Derives (run Letter 4 4) (cut w (r .parts .number .sender)) × Derives (run Letter 4 4) (cut w (r .parts .number .receiver)) × Derives (run Digit 3 3) (cut w (r .parts .number .digits))
+  unfolding kept fine ordered filled only isNil takesFirst first laid sure single pieces sameBool samePieces even told among occurs nullable clear apart fixed heads differ offLeaf off names strange covers plain inNumbered in07 in08 counted in09 in10 hour minute timed in13 in13o level3 level4 levelled bearing bearingFrom degrees minutes pointed in14 after15 in15 alternates in16 inThree18 inFour18 in18
+  number-ordered = (
+    sure-part n.sender (run Letter 4 4) same refl,
+    sure-part n.receiver (run Letter 4 4) same refl,
+    sure-part n.number (run Digit 3 3) same refl,
+  )
+
+  reference-ordered : Derives (opt (run Letter 4 4)) (cut w (r .parts .reference .sender)) × Derives (opt (run Letter 4 4)) (cut w (r .parts .reference .receiver)) × Derives (opt (run Digit 3 3)) (cut w (r .parts .reference .digits))
+  unfolding kept fine ordered filled only isNil takesFirst first laid sure single pieces sameBool samePieces even told among occurs nullable clear apart fixed heads differ offLeaf off names strange covers plain inNumbered in07 in08 counted in09 in10 hour minute timed in13 in13o level3 level4 levelled bearing bearingFrom degrees minutes pointed in14 after15 in15 alternates in16 inThree18 inFour18 in18
+  reference-ordered = (
+    part-said w r j a b c t n.referenceSender (run Letter 4 4) same refl,
+    part-said w r j a b c t n.referenceReceiver (run Letter 4 4) same refl,
+    part-said w r j a b c t n.referenceNumber (run Digit 3 3) same refl,
+  )
+
+  sector-ordered : Derives (opt (words 20)) (cut w (r .parts .sector))
+  unfolding kept fine ordered filled only isNil takesFirst first laid sure single pieces sameBool samePieces even told among occurs nullable clear apart fixed heads differ offLeaf off names strange covers plain inNumbered in07 in08 counted in09 in10 hour minute timed in13 in13o level3 level4 levelled bearing bearingFrom degrees minutes pointed in14 after15 in15 alternates in16 inThree18 inFour18 in18
+  sector-ordered = part-said w r j a b c t n.sector (words 20) same refl
+
+-- THE FIGURE OF THREE DIGITS
+
+digit-small : (s : List ℕ) (k : ℕ) → all Digit s ≡ true → getD s k 0 - 48 ≤ 9
+unfolding all
+digit-small [] k h = omega arith
+digit-small (x ∷ s) zero h =
+    let d = and-l (isIn Digit x) (all Digit s) h in
+    let u = leb-true x 57 (and-r (leb 48 x) (leb x 57) d) in
+    omega (arith, u)
+digit-small (x ∷ s) (suc k) h = digit-small s k (and-r (isIn Digit x) (all Digit s) h)
+
+digit-at : (s : List ℕ) (at k : ℕ) → k < 3 → all Digit (take 3 (drop at s)) ≡ true → getD s (at + k) 0 - 48 ≤ 9
+digit-at s at k h d = subst (λ (x : ℕ). x - 48 ≤ 9) (getD-take 3 (drop at s) k 0 h ∙ getD-drop at s k 0) (digit-small (take 3 (drop at s)) k d)
+
+figure-small : (s : List ℕ) (p : Span) → p .len ≡ 3 → all Digit (cut s p) ≡ true → figureIn s p ≤ 999
+unfolding figure
+figure-small s p e d =
+    let h : all Digit (take 3 (drop (p .at) s)) ≡ true = ap (λ (k : ℕ). all Digit (take k (drop (p .at) s))) (sym e) ∙ d in
+    rw e (omega (arith, digit-at s (p .at) 0 (omega arith) h, digit-at s (p .at) 1 (omega arith) h, digit-at s (p .at) 2 (omega arith) h))
+
+no-figure : (s : List ℕ) (p : Span) → p .len ≡ 0 → figureIn s p ≤ 999
+unfolding figure
+no-figure s p e = rw e (omega arith)
+
+-- WHAT A MESSAGE THAT WAS READ SAYS
+
+module _ (w : List ℕ) (r : Record) (j : Judged w Read r) where
+  pub number-said : Derives (run Letter 4 4) (cut w (r .parts .number .sender)) × Derives (run Letter 4 4) (cut w (r .parts .number .receiver)) × Derives (run Digit 3 3) (cut w (r .parts .number .digits))
+  number-said = order w r j _ (number-ordered w r j)
+
+  pub reference-said : Derives (opt (run Letter 4 4)) (cut w (r .parts .reference .sender)) × Derives (opt (run Letter 4 4)) (cut w (r .parts .reference .receiver)) × Derives (opt (run Digit 3 3)) (cut w (r .parts .reference .digits))
+  reference-said = order w r j _ (reference-ordered w r j)
+
+  pub sector-said : Derives (opt (words 20)) (cut w (r .parts .sector))
+  sector-said = order w r j _ (sector-ordered w r j)
+
+  -- how long the parts are
+  size-of : (k : ℕ) → spanOf r k .len ≡ length (cut w (spanOf r k))
+  size-of k = sym (cut-size w (spanOf r k) (its-inside w r j k))
+
+  pub sector-short : length (cut w (r .parts .sector)) ≤ 20
+  sector-short = ⊎-elim (λ e. omega (arith, ap length e)) (λ d. d .1) sector-said
+
+  -- a number is at most 999
+  pub number-small : r .figures .number ≤ 999
+  number-small =
+      let d = number-said .2 in
+      subst (λ (x : ℕ). x ≤ 999) (ap (λ (x : Record). figureIn w (x .parts .number .digits)) (j .2) ∙ sym (ap (λ (x : Record). x .figures .number) (j .2)))
+      (figure-small w (r .parts .number .digits) (omega (arith, size-of n.number, d .1, d .2)) (d .0))
+
+  pub reference-small : r .figures .reference ≤ 999
+  reference-small =
+      let q = r .parts .reference .digits in
+      subst (λ (x : ℕ). x ≤ 999) (ap (λ (x : Record). figureIn w (x .parts .reference .digits)) (j .2) ∙ sym (ap (λ (x : Record). x .figures .reference) (j .2)))
+      (⊎-elim
+      (λ e. no-figure w q (size-of n.referenceNumber ∙ ap length e))
+      (λ d. figure-small w q (omega (arith, size-of n.referenceNumber, d .1, d .2)) (d .0))
+      (reference-said .2))
