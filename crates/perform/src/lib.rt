@@ -11,13 +11,16 @@ ghost use Rattle.excerpt.specs.Excerpt.{textsOf, field14Of, FitsIn, Fits14};
 ghost use Rattle.flights.specs.Padding.{padded};
 ghost use Rattle.flights.specs.Flight.{Status, statusByte, offered, active};
 ghost use Rattle.flights.specs.Table.{places, place, free as isFree};
-ghost use Rattle.flights.specs.Decoded.{readFlight};
+ghost use Rattle.flights.specs.Decoded.{readFlight, flightsIn, tableOf};
 ghost use Rattle.flights.specs.Made.{Made, withText};
 ghost use Rattle.deeds.specs.Message.{messageOf};
 ghost use Rattle.deeds.specs.Deeds.{withField, makes, made, amended, estimated, handedOff, becomes};
 ghost use Rattle.perform.specs.Changing.{Changes, givenText, givenField, withNames, withFields};
 ghost use Rattle.perform.specs.Performed.{Held, Written};
+ghost use Rattle.flights.specs.Formed.{TableFormed};
+ghost use Rattle.deeds.specs.Applying.{decision, applied};
 use changes::Plan;
+use deeds::Decision;
 use deeds::Deed;
 use message::Record;
 use scan::Span;
@@ -322,5 +325,17 @@ pub fn carry_out(d: Deed, table: &mut [u8], i: usize, w: &[u8], r: Record)
         Deed::Retracts => flights::set_byte(table, i, 1, 0),
         Deed::Accepts => flights::set_byte(table, i, 1, 2),
         Deed::Nothing => {}
+    }
+}
+
+// Does what was decided.
+pub fn follow(c: Decision, table: &mut [u8], w: &[u8], r: Record)
+    requires { ⌜ Judged (now w) Read r × TableFormed (now table) × (c ≡ decision (messageOf (now w) r) (flightsIn (now table))) ⌝ }
+    ensures { λ _. ⌜ now (table .exit) ≡ tableOf (applied (messageOf (now (w .entry)) r) (flightsIn (now (table .entry)))) ⌝ }
+{
+    match c {
+        Decision::Fails => {}
+        Decision::Full => {}
+        Decision::Done(i) => carry_out(deeds::deed_of(w, r), table, i, w, r),
     }
 }

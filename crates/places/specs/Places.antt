@@ -44,6 +44,11 @@ abbrev pub Every : {A : Type 0} → (Option A → Type 0) → Places A → Type 
 Every P [] = Unit
 Every P (x ∷ l) = P x × Every P l
 
+-- k free places
+unfoldable pub empty : {A : Type 0} → ℕ → Places A
+empty zero = []
+empty (suc k) = none ∷ empty k
+
 module _ {A : Type 0} where
   -- ONE PLACE
 

@@ -7,13 +7,13 @@ use Prim.Native.Nat.{ℕ, zero, suc, _+_, _*_, _<_}
 use native.Mathlib.Nat.{zero-mul, suc-mul, add-comm}
 use native.Mathlib.Numerals.{add-one}
 use native.Mathlib.Omega.{arith}
-use lib.ListN.{length, take, drop, length-append, length-drop, take-append-drop}
+use lib.ListN.{length, take, drop, replicate, length-append, length-drop, take-append-drop, replicate-append-replicate}
 use lib.Seq.{length-take-le, take-at, drop-at, drop-drop}
 use Rattle.splice.specs.Splice.{splice}
 use Rattle.splice.specs.Inside.{splice-front, splice-behind}
 use Rattle.places.specs.declared.Place.the-variants.{At}
 use Rattle.places.specs.Search.{firstFrom, countFrom}
-use Rattle.places.specs.Places.{Places, isFree, get, set, firstOf, used, Every}
+use Rattle.places.specs.Places.{Places, isFree, get, set, firstOf, used, Every, empty}
 use Rattle.places.specs.Forms.{Form, bytesOr, bytesOf, placesFrom, placeAt}
 
 nothing : (t : List ℕ) → length t ≡ 0 → [] ≡ t
@@ -98,6 +98,14 @@ module _ {A : Type 0} (F : Form A) where
   unfolding bytesOf
   length-bytes [] e = sym (zero-mul (F .width))
   length-bytes (x ∷ l) e = omega (arith, length-append (bytesOr F x) (bytesOf F l), e .0, length-bytes l (e .1), suc-mul (length l) (F .width))
+
+  -- where all are free, all is zero
+  pub bytes-empty : (k : ℕ) → bytesOf F (empty k) ≡ replicate (k * F .width) 0
+  unfolding bytesOf empty
+  bytes-empty zero = ap (λ (n : ℕ). replicate n 0) (sym (zero-mul (F .width)))
+  bytes-empty (suc k) =
+      let w = F .width in
+      ap (λ (u : List ℕ). replicate w 0 ++ u) (bytes-empty k) ∙ replicate-append-replicate w (k * w) 0 ∙ ap (λ (n : ℕ). replicate n 0) (add-comm w (k * w) ∙ sym (suc-mul k w))
 
   -- the bytes of one place
   pub place-bytes : (i : ℕ) (l : Places A) → i < length l → Every Fits l → placeAt F i (bytesOf F l) ≡ bytesOr F (get i l)

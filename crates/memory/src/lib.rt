@@ -1,0 +1,17 @@
+// The memory that is lent for one link.
+ghost use Rattle.scan.specs.Bools.{Decides};
+ghost use Rattle.memory.specs.End.{lent, Formed};
+use head::Head;
+
+// Whether all that is lent is well formed. It is looked at on every call, before anything else.
+pub fn is_sound(h: Head, sent: &[u8], received: &[u8], unanswered: &[u8], answers: &[u8]) -> bool
+    ensures { λ r. ⌜ Decides r (Formed h (lent (now (sent .entry)) (now (received .entry)) (now (unanswered .entry)) (now (answers .entry)))) ⌝ }
+{
+    let ours = h.ours;
+    let partners = h.partners;
+    h.is_sound()
+        & flights::is_table(sent)
+        & flights::is_table(received)
+        & unanswered::is_unanswered(unanswered, &ours, &partners)
+        & answers::is_answers(answers)
+}
