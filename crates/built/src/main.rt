@@ -487,33 +487,66 @@ fn show(name: &[u8], r: Record, room: usize) {
     io::write_all(STDOUT_FILENO, b"\n");
 }
 
-fn main() {
+// The types with a flight plan or what belongs to one.
+fn show_plans() {
     show(b"FPL", fpl(), 400);
     show(b"CPL", cpl(), 400);
     show(b"EST", est(), 400);
     show(b"CHG", chg(), 400);
     show(b"CNL", cnl(), 400);
+}
+
+fn show_others() {
     show(b"RTI", rti(), 400);
     show(b"RTA", rta(), 400);
     show(b"RLA", rla(), 400);
     show(b"LAM", answering(Kind::Lam), 400);
     show(b"LRM", lrm(), 400);
+}
+
+// Buffers with too little room, and with just enough.
+fn show_rooms() {
     show(b"a room of one byte less", answering(Kind::Lam), 28);
     show(b"just the room", answering(Kind::Lam), 29);
     show(b"no room", answering(Kind::Lam), 0);
+}
+
+// Records that have no text: parts that the type does not have, or lacks, or that lie outside.
+fn show_misfits() {
     show(b"of no type", of_no_type(), 400);
     show(b"without a departure", without_departure(), 400);
     show(b"a LAM with a sector", with_sector(), 400);
     show(b"a part outside", outside(), 400);
     show(b"an absent part outside", absent_outside(), 400);
+}
+
+// A rule of a field is broken.
+fn show_broken() {
     show(b"a count of 1", count_of_one(), 400);
     show(b"minute 60", minute_sixty(), 400);
     show(b"the second alternate alone", second_alternate_alone(), 400);
     show(b"07 in company", aircraft_in_company(), 400);
+}
+
+fn show_references() {
     show(b"an FPL with a reference", with_reference(), 400);
     show(b"a CNL without one", without_reference(), 400);
+}
+
+// The numbers say something else than the parts.
+fn show_figures() {
     show(b"another figure", other_figure(), 400);
     show(b"another kind of level", other_kind_of_level(), 400);
     show(b"another number", other_number(), 400);
     show(b"a broken rule and no room", of_no_type(), 0);
+}
+
+fn main() {
+    show_plans();
+    show_others();
+    show_rooms();
+    show_misfits();
+    show_broken();
+    show_references();
+    show_figures();
 }
