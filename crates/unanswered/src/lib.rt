@@ -13,7 +13,7 @@ use places::Place;
 use scan::Span;
 
 // Whether a type answers; no message is none to wait for.
-fn is_answer(k: Kind) -> bool
+pub fn is_answer(k: Kind) -> bool
     ensures { λ r. ⌜ r ≡ isAnswer k ⌝ }
 {
     match k {
