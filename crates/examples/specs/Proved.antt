@@ -2,30 +2,41 @@
 use mathlib.Core.Path.{_≡_, refl, subst}
 use mathlib.Core.List.{List, [], _∷_}
 use Rattle.message.specs.declared.Verdict.{Verdict}
-use Rattle.scan.specs.Scanner.{runAt, runScan, wordsAt, wordsScan, longer}
+use Rattle.scan.specs.Scanner.{runAt, runScan, wordsAt, wordsScan, longer, leads, among, occurs, between, spanBy, between16}
 use Rattle.fields.specs.Fields.{inNumbered, in07, in08, counted, in09, in10, hour, minute, timed, in13, in13o, level3, level4, levelled, bearing, bearingFrom, degrees, minutes, pointed, in14, after15, in15, alternates, in16, inThree18, inFour18, in18}
 use Rattle.changes.specs.Changes.{from18, from16, from15, from13, from10, from09, from08, inChanges, inChanged}
 use Rattle.types.specs.Messages.{fpl, cpl, est, chg, cnl, rti, rta, rla, lam, lrm, message}
 use Rattle.message.specs.Reading.{hyphens}
 use Rattle.message.specs.Reader.{verdict, Ruled, verdict-right}
+use Rattle.message.specs.Record.{kindOf, figure}
 use Rattle.head.specs.Head.{standingAt, standing}
-use Rattle.examples.specs.Table.{Example, reads, stands, table, Holds1, Holds}
+use Rattle.places.specs.Bytes.{same}
+use Rattle.places.specs.Places.{get, firstOf, empty}
+use Rattle.unanswered.specs.Waiting.{isAnswer}
+use Rattle.memory.specs.End.{numbered}
+use Rattle.deeds.specs.Deeds.{deedBy}
+use Rattle.rules.specs.Reads.{readRecord}
+use Rattle.rules.specs.Answers.{isOffering, proper}
+use Rattle.rules.specs.Receiving.{referred, settle, hear, receiveBy, receive}
+use Rattle.examples.specs.Table.{Example, reads, stands, comes, table, Holds1, Holds}
 
 abbrev Computes1 : Example → Type 0
 Computes1 (reads s v) = verdict s ≡ v
 Computes1 (stands h n k) = standing h n ≡ k
+Computes1 (comes room s e x) = receive room s e ≡ x
 
 abbrev Computes : List Example → Type 0
 Computes [] = Unit
 Computes (e ∷ es) = Computes1 e × Computes es
 
 computed : Computes table
-unfolding runAt runScan wordsAt wordsScan longer inNumbered in07 in08 counted in09 in10 hour minute timed in13 in13o level3 level4 levelled bearing bearingFrom degrees minutes pointed in14 after15 in15 alternates in16 inThree18 inFour18 in18 from18 from16 from15 from13 from10 from09 from08 inChanges inChanged fpl cpl est chg cnl rti rta rla lam lrm message hyphens verdict standingAt
-computed = (refl, (refl, (refl, (refl, (refl, (refl, (refl, (refl, (refl, (refl, (refl, tt)))))))))))
+unfolding runAt runScan wordsAt wordsScan longer inNumbered in07 in08 counted in09 in10 hour minute timed in13 in13o level3 level4 levelled bearing bearingFrom degrees minutes pointed in14 after15 in15 alternates in16 inThree18 inFour18 in18 from18 from16 from15 from13 from10 from09 from08 inChanges inChanged fpl cpl est chg cnl rti rta rla lam lrm message hyphens verdict standingAt leads among occurs between spanBy between16 readRecord kindOf figure same deedBy isOffering proper isAnswer numbered get firstOf empty referred settle hear receiveBy
+computed = (refl, (refl, (refl, (refl, (refl, (refl, (refl, (refl, (refl, (refl, (refl, (refl, tt))))))))))))
 
 by-computing1 : (e : Example) → Computes1 e → Holds1 e
 by-computing1 (reads s v) c = subst (Ruled s) c (verdict-right s)
 by-computing1 (stands h n k) c = c
+by-computing1 (comes room s e x) c = c
 
 by-computing : (es : List Example) → Computes es → Holds es
 by-computing [] c = tt

@@ -36,7 +36,7 @@ sizes-is m a b =
 
 -- NAMES
 
-name-long : (a : List ℕ) → Derives (run Letter 4 4) a → length a ≡ 4
+pub name-long : (a : List ℕ) → Derives (run Letter 4 4) a → length a ≡ 4
 name-long a d = omega (arith, d .1, d .2)
 
 pub names-long : {a b : List ℕ} → Names a b → (length a ≡ 4) × (length b ≡ 4)

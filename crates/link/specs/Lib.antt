@@ -1,3 +1,6 @@
 pub mod SetUp
+pub mod Sends
 pub mod Resending
 pub mod Beginning
+pub mod Sending
+pub mod Received

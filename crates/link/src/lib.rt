@@ -1,14 +1,28 @@
 // One end of a link: the calls.
 ghost use mathlib.Core.Path.{_≡_};
+ghost use mathlib.Core.List.{List};
+ghost use Prim.Native.Nat.{ℕ};
 ghost use lib.ListN.{length, replicate};
 ghost use Rattle.scan.specs.Bools.{Decides};
-ghost use Rattle.memory.specs.End.{lent};
-ghost use Rattle.rules.specs.Sending.{resend as resendOf};
-ghost use Rattle.calls.specs.Calls.{Called};
+ghost use Rattle.message.specs.Reading.{Judged};
+ghost use Rattle.message.specs.declared.Verdict.the-variants.{Read};
+ghost use Rattle.message.specs.Reader.{Ruled};
+ghost use Rattle.head.specs.Sound.{HeadFormed};
+ghost use Rattle.flights.specs.Formed.{TableFormed};
+ghost use Rattle.unanswered.specs.Waiting.{UnansweredFormed};
+ghost use Rattle.memory.specs.End.{lent, Formed, endOf};
+ghost use Rattle.deeds.specs.Message.{messageOf};
+ghost use Rattle.rules.specs.Receiving.{hear as hearOf, receive as receiveOf};
+ghost use Rattle.rules.specs.Sending.{send as sendOf, resend as resendOf};
+ghost use Rattle.calls.specs.Calls.{Comes, Called};
 ghost use Rattle.link.specs.SetUp.{Sized, Sizes, Names, firstHead, SetsUp};
+ghost use Rattle.link.specs.Sends.{Sent};
 use calls::Answer;
 use calls::Outcome;
+use drafts::Drafting;
 use head::Head;
+use message::Record;
+use message::Verdict;
 use places::Place;
 
 // RESENDING: the kept text of an unanswered number. Nothing else changes.
@@ -120,5 +134,117 @@ pub fn set_up(
     Outcome {
         answer: Answer::Done(0),
         head: first_head(ours, partners),
+    }
+}
+
+// A text that was laid out is sent; it is read again for its record.
+fn send_draft(
+    h: Head,
+    w: &[u8],
+    sent: &[u8],
+    received: &mut [u8],
+    unanswered: &mut [u8],
+    out: &mut [u8],
+) -> Outcome
+    requires { ⌜ Ruled (now w) Read × HeadFormed h × TableFormed (now sent) × TableFormed (now received) × UnansweredFormed (h .ours) (h .partners) (now unanswered) ⌝ }
+    ensures { λ o. ⌜ ((A : List ℕ) → Formed h (lent (now (sent .entry)) (now (received .entry)) (now (unanswered .entry)) A) → Comes (sendOf (length (now (out .entry))) (now (w .entry)) (endOf h (lent (now (sent .entry)) (now (received .entry)) (now (unanswered .entry)) A))) h (lent (now (sent .entry)) (now (received .entry)) (now (unanswered .entry)) A) (now (out .entry)) o (lent (now (sent .entry)) (now (received .exit)) (now (unanswered .exit)) A) (now (out .exit))) ⌝ }
+{
+    let q = message::read(w);
+    sending::send_text(h, w, q.record, sent, received, unanswered, out)
+}
+
+// SENDING what a record over the bytes d says, under the next number.
+pub fn send(
+    h: Head,
+    r: Record,
+    d: &[u8],
+    sent: &[u8],
+    received: &mut [u8],
+    unanswered: &mut [u8],
+    answers: &[u8],
+    out: &mut [u8],
+) -> Outcome
+    ensures { λ o. ⌜ Sent (now (d .entry)) r h (lent (now (sent .entry)) (now (received .entry)) (now (unanswered .entry)) (now (answers .entry))) (now (out .entry)) o (lent (now (sent .entry)) (now (received .exit)) (now (unanswered .exit)) (now (answers .entry))) (now (out .exit)) ⌝ }
+{
+    if !memory::is_sound(h, sent, received, unanswered, answers) {
+        return Outcome {
+            answer: Answer::NotFormed,
+            head: h,
+        };
+    }
+    let k = r.kind;
+    if unanswered::is_answer(k) {
+        return Outcome {
+            answer: Answer::BreaksRule,
+            head: h,
+        };
+    }
+    let ours = h.ours;
+    let partners = h.partners;
+    let mut text = [0u8; 1077];
+    let v = drafts::draft(&mut text, &ours, &partners, h.next, r, d);
+    match v {
+        Drafting::Written(n) => send_draft(h, &text[..n], sent, received, unanswered, out),
+        Drafting::BreaksRule => Outcome {
+            answer: Answer::BreaksRule,
+            head: h,
+        },
+    }
+}
+
+// A text that is read: an answer, or a message.
+fn hear(
+    h: Head,
+    text: &[u8],
+    r: Record,
+    sent: &mut [u8],
+    received: &mut [u8],
+    unanswered: &mut [u8],
+    answers: &mut [u8],
+    out: &mut [u8],
+) -> Outcome
+    requires { ⌜ Formed h (lent (now sent) (now received) (now unanswered) (now answers)) × Judged (now text) Read r ⌝ }
+    ensures { λ o. ⌜ Comes (hearOf (length (now (out .entry))) (messageOf (now (text .entry)) r) (endOf h (lent (now (sent .entry)) (now (received .entry)) (now (unanswered .entry)) (now (answers .entry))))) h (lent (now (sent .entry)) (now (received .entry)) (now (unanswered .entry)) (now (answers .entry))) (now (out .entry)) o (lent (now (sent .exit)) (now (received .exit)) (now (unanswered .exit)) (now (answers .exit))) (now (out .exit)) ⌝ }
+{
+    if !rules::directed(text, r, h) {
+        return Outcome {
+            answer: Answer::WrongUnits,
+            head: h,
+        };
+    }
+    let kind = r.kind;
+    if unanswered::is_answer(kind) {
+        return settling::hear_answer(h, kind, r.figures.number, sent, unanswered);
+    }
+    hearing::hear_message(h, text, r, sent, received, unanswered, answers, out)
+}
+
+// RECEIVING: a text from the partner.
+pub fn receive(
+    h: Head,
+    text: &[u8],
+    sent: &mut [u8],
+    received: &mut [u8],
+    unanswered: &mut [u8],
+    answers: &mut [u8],
+    out: &mut [u8],
+) -> Outcome
+    ensures { λ o. ⌜ Called (receiveOf (length (now (out .entry))) (now (text .entry))) h (lent (now (sent .entry)) (now (received .entry)) (now (unanswered .entry)) (now (answers .entry))) (now (out .entry)) o (lent (now (sent .exit)) (now (received .exit)) (now (unanswered .exit)) (now (answers .exit))) (now (out .exit)) ⌝ }
+{
+    if !memory::is_sound(h, &sent[..], &received[..], &unanswered[..], &answers[..]) {
+        return Outcome {
+            answer: Answer::NotFormed,
+            head: h,
+        };
+    }
+    let q = message::read(text);
+    let r = q.record;
+    let v = q.verdict;
+    match v {
+        Verdict::Refused(place, before) => Outcome {
+            answer: Answer::NotRead(place, before),
+            head: h,
+        },
+        Verdict::Read => hear(h, text, r, sent, received, unanswered, answers, out),
     }
 }
