@@ -6,11 +6,12 @@ use mathlib.Core.List.{List}
 use Prim.Native.Nat.{ℕ, _+_, _-_, _*_, _/_, _≤_, _<_}
 use native.Mathlib.Omega.{arith}
 use lib.ListN.{length, take, drop, getD, length-drop}
-use lib.Seq.{length-take-le}
+use lib.Seq.{length-take-le, getD-take, getD-drop}
 use lib.Dec.{eqb, ltb}
 use borrow.Author.Tests.{eqb-true, eq-eqb, ltb-true, ltb-false, not-true}
 use Rattle.scan.specs.Bools.{known, and-l, and-r, both, Decides, decides-and, decides-as}
 use Rattle.places.specs.Below.{Below}
+use Rattle.flights.specs.Padding.{padded, trimmed, padded-back}
 use Rattle.flights.specs.Flight.{flightOf, WellFormed}
 use Rattle.places.specs.Bytes.{same, same-is}
 use Rattle.flights.specs.Table.{places, place, free, lent}
@@ -45,7 +46,7 @@ keys-same a b =
     decides-as (λ p. record { aircraft = p .0 .0; departure = p .0 .1; destination = p .1 }) (λ k. ((k .aircraft, k .departure), k .destination))
     (decides-and (decides-and (same-is (flightOf a .aircraft) (flightOf b .aircraft)) (same-is (flightOf a .departure) (flightOf b .departure))) (same-is (flightOf a .destination) (flightOf b .destination)))
 
-pub used-apart : (a b : List ℕ) → free a ≡ false → free b ≡ false → (x y z : Bool) → x ≡ same (flightOf a .aircraft) (flightOf b .aircraft) → y ≡ same (flightOf a .departure) (flightOf b .departure) → z ≡ same (flightOf a .destination) (flightOf b .destination) → Decides (not ((x && y) && z)) (Apart a b)
+used-apart : (a b : List ℕ) → free a ≡ false → free b ≡ false → (x y z : Bool) → x ≡ same (flightOf a .aircraft) (flightOf b .aircraft) → y ≡ same (flightOf a .departure) (flightOf b .departure) → z ≡ same (flightOf a .destination) (flightOf b .destination) → Decides (not ((x && y) && z)) (Apart a b)
 used-apart a b u v x y z p q r =
     let s : (x && y) && z ≡ ((same (flightOf a .aircraft) (flightOf b .aircraft) && same (flightOf a .departure) (flightOf b .departure)) && same (flightOf a .destination) (flightOf b .destination)) = λ i. (p i && q i) && r i in
     let d = keys-same a b in
@@ -53,6 +54,37 @@ used-apart a b u v x y z p q r =
       yes = λ e f g k. false≢true (sym (not-true ((x && y) && z) e) ∙ s ∙ d .no k);
       no = λ h. ⊎-elim (λ t. absurd (h u v (d .yes (sym s ∙ t)))) (λ t. ap not t) (known ((x && y) && z));
     }
+
+-- A TEXT IN ITS WIDTH is told by its bytes as they stand, so keys are compared with their padding
+
+agree : {b c : Bool} {P Q : Type 0} → Decides b P → Decides c Q → (P → Q) → (Q → P) → b ≡ c
+agree {b} {c} x y f g = ⊎-elim (λ e. e ∙ sym (y .no (f (x .yes e)))) (λ e. e ∙ ⊎-elim (λ u. absurd (false≢true (sym e ∙ x .no (g (y .yes u))))) (λ u. sym u) (known c)) (known b)
+
+whole-text : (w : ℕ) (s t : List ℕ) → length s ≡ w → length t ≡ w → trimmed s ≡ trimmed t → s ≡ t
+whole-text w s t p q e = sym (padded-back w s p) ∙ ap (padded w) e ∙ padded-back w t q
+
+raw-same : (w : ℕ) (s t : List ℕ) → length s ≡ w → length t ≡ w → same s t ≡ same (trimmed s) (trimmed t)
+raw-same w s t p q = agree (same-is s t) (same-is (trimmed s) (trimmed t)) (ap trimmed) (whole-text w s t p q)
+
+module _ (a b : List ℕ) (p : length a ≡ 768) (q : length b ≡ 768) where
+  cut-long : (l : List ℕ) (at w : ℕ) → length l ≡ 768 → at + w ≤ 768 → length (take w (drop at l)) ≡ w
+  cut-long l at w n h = length-take-le w (drop at l) (omega (arith, length-drop at l))
+
+  -- aircraft that differ in their first byte
+  pub first-apart : (getD a 6 0 ≡ getD b 6 0 → ⊥) → Decides true (Apart a b)
+  first-apart n = record {
+    yes = λ e u v k.
+        let s : take 7 (drop 6 a) ≡ take 7 (drop 6 b) = whole-text 7 (take 7 (drop 6 a)) (take 7 (drop 6 b)) (cut-long a 6 7 p (omega arith)) (cut-long b 6 7 q (omega arith)) (k .aircraft) in
+        n (sym (getD-take 7 (drop 6 a) 0 0 (omega arith) ∙ getD-drop 6 a 0 0) ∙ ap (λ (l : List ℕ). getD l 0 0) s ∙ (getD-take 7 (drop 6 b) 0 0 (omega arith) ∙ getD-drop 6 b 0 0));
+    no = λ h. refl;
+  }
+
+  pub raw-apart : free a ≡ false → free b ≡ false → (x y z : Bool) → x ≡ same (take 7 (drop 6 a)) (take 7 (drop 6 b)) → y ≡ same (take 4 (drop 17 a)) (take 4 (drop 17 b)) → z ≡ same (take 4 (drop 25 a)) (take 4 (drop 25 b)) → Decides (not ((x && y) && z)) (Apart a b)
+  raw-apart u v x y z d e f =
+      used-apart a b u v x y z
+      (d ∙ raw-same 7 (take 7 (drop 6 a)) (take 7 (drop 6 b)) (cut-long a 6 7 p (omega arith)) (cut-long b 6 7 q (omega arith)))
+      (e ∙ raw-same 4 (take 4 (drop 17 a)) (take 4 (drop 17 b)) (cut-long a 17 4 p (omega arith)) (cut-long b 17 4 q (omega arith)))
+      (f ∙ raw-same 4 (take 4 (drop 25 a)) (take 4 (drop 25 b)) (cut-long a 25 4 p (omega arith)) (cut-long b 25 4 q (omega arith)))
 
 -- of two places that were lent
 pub on-places : (t : List ℕ) (i j : ℕ) {b : Bool} → Decides b (Apart (take (i * 768 + 768 - i * 768) (drop (i * 768) t)) (take (j * 768 + 768 - j * 768) (drop (j * 768) t))) → Decides b (Apart (place i t) (place j t))

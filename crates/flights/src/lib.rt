@@ -265,7 +265,7 @@ pub fn used(table: &[u8]) -> usize
     count
 }
 
-// Whether two records are not both used with one key.
+// Whether two records are not both used with one key. Most keys differ in their first byte.
 fn apart<'a>(a: &'a [u8], b: &'a [u8]) -> bool
     requires { ⌜ (length (now a) ≡ 768) × (length (now b) ≡ 768) ⌝ }
     ensures { λ r. ⌜ Decides r (Apart (now (a .entry)) (now (b .entry))) ⌝ }
@@ -276,9 +276,12 @@ fn apart<'a>(a: &'a [u8], b: &'a [u8]) -> bool
     if b[0] == 0 {
         return true;
     }
-    let aircraft = places::same(text_at(a, 6, 7), text_at(b, 6, 7));
-    let departure = places::same(text_at(a, 17, 4), text_at(b, 17, 4));
-    let destination = places::same(text_at(a, 25, 4), text_at(b, 25, 4));
+    if a[6] != b[6] {
+        return true;
+    }
+    let aircraft = places::same(&a[6..13], &b[6..13]);
+    let departure = places::same(&a[17..21], &b[17..21]);
+    let destination = places::same(&a[25..29], &b[25..29]);
     !(aircraft & departure & destination)
 }
 
