@@ -109,7 +109,7 @@ def show(record):
 
 
 def main():
-    table = [None] * 4
+    table = [None] * 5
     for line in sys.stdin.read().splitlines():
         print(apply(table, line))
     for record in table:

@@ -1,4 +1,4 @@
-// Applies each line of the input, where it is read, to one table of four places, says what was decided, and shows the table at
+// Applies each line of the input, where it is read, to one table of five places, says what was decided, and shows the table at
 // the end: of each place the first six bytes as numbers, the texts in their width, and whether the rest is zero.
 ghost use Rattle.message.specs.Reading.{Judged};
 ghost use Rattle.message.specs.declared.Verdict.the-variants.{Read};
@@ -54,13 +54,14 @@ fn take_all(s: &[u8], table: &mut [u8]) {
 
 fn main() {
     let mut input = [0u8; 20000];
-    let mut table = [0u8; 3072];
+    let mut table = [0u8; 3840];
     let n = io::read_full(STDIN_FILENO, &mut input);
     take_all(&input[..n], &mut table);
     show::show_place(&table[0..768]);
     show::show_place(&table[768..1536]);
     show::show_place(&table[1536..2304]);
     show::show_place(&table[2304..3072]);
+    show::show_place(&table[3072..3840]);
     if flights::is_table(&table) {
         show::say(b"well formed\n");
     }
