@@ -1,0 +1,11 @@
+pub mod Laws
+pub mod KindFacts
+pub mod Runs
+pub mod Numbers
+pub mod Waits
+pub mod Flights
+pub mod Halves
+pub mod Learnt
+pub mod Heard
+pub mod Kept
+pub mod Agreement

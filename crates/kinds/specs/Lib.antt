@@ -1,0 +1,4 @@
+pub mod Tools
+pub mod Kinds
+pub mod Views
+pub mod Ends

@@ -1,0 +1,12 @@
+pub mod World
+pub mod Claims
+pub mod Came
+pub mod Texts
+pub mod Parts
+pub mod Follows
+pub mod Steps
+pub mod Followed
+pub mod Agreeing
+pub mod Arriving
+pub mod NoMore
+pub mod Demand
