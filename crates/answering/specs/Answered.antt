@@ -2,13 +2,12 @@
 -- it answers, the reference between the same units in their order and its own number between them turned round.
 use mathlib.Core.Path.{_≡_, refl, sym, ap, _∙_, subst}
 use mathlib.Core.Logic.{_⊎_, inl, inr}
-use mathlib.Core.Bool.{true, cond, false≢true}
+use mathlib.Core.Bool.{true, false≢true}
 use mathlib.Core.List.{List, [], _∷_, _++_}
 use Prim.Native.Nat.{ℕ, zero, suc, _+_, _-_, _*_, _≤_}
 use native.Mathlib.Omega.{arith}
 use lib.ListN.{length, getD, take, drop}
 use lib.Seq.{getD-take, getD-drop}
-use lib.Dec.{eqb}
 use Rattle.scan.specs.declared.Span.{Span}
 use Rattle.scan.specs.declared.Class.the-variants.{Letter, Digit}
 use Rattle.scan.specs.Grammar.{all, text, run, words, part, Derives}
@@ -18,12 +17,13 @@ use Rattle.fields.specs.Names as n
 use Rattle.fields.specs.Fields.{inNumbered, in07}
 use Rattle.types.specs.Messages.{rti}
 use Rattle.message.specs.declared.Kind.{Kind}
-use Rattle.message.specs.declared.Kind.the-variants.{Rti, Rla, Lam, Lrm}
+use Rattle.message.specs.declared.Kind.the-variants.{Rti, Rla}
 use Rattle.message.specs.declared.Record.{Record}
 use Rattle.message.specs.declared.Verdict.the-variants.{Read}
 use Rattle.message.specs.Record.{figure, figureAt, figureIn}
 use Rattle.message.specs.Reading.{cut, Judged}
 use Rattle.message.specs.Reader.{verdict, verdict-only}
+use Rattle.unanswered.specs.Encoded.{read-short}
 use Rattle.compose.specs.Layout.{laid, told, Tells}
 use Rattle.compose.specs.Order.{same}
 use Rattle.compose.specs.Composed.{sizes, bytesIn}
@@ -149,3 +149,9 @@ module _ (w : List ℕ) (r : Record) (j : Judged w Read r) where
   answer-read v (inr (inl e)) = here e lrm-57-read
   answer-read v (inr (inr (inl e))) = here e lrm-62-read
   answer-read v (inr (inr (inr e))) = here (e .0) (rla-read (e .1))
+
+  -- so it is no longer than the longest text that is read
+  pub answer-short : (v : ℕ) → Answerable (messageOf w r) v → length (answerText (messageOf w r) v) ≤ 1077
+  answer-short v e =
+      let t = answerText (messageOf w r) v in
+      read-short t (readRecord t) (answer-read v e .judged)

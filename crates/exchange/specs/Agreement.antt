@@ -13,7 +13,7 @@ use Rattle.head.specs.Head.{standing}
 use Rattle.deeds.specs.Message.{Message}
 use Rattle.deeds.specs.Deeds.{Key, old}
 use Rattle.kinds.specs.Tools.{upd, upd-same, upd-other, same?, none-some, some-inj}
-use Rattle.kinds.specs.Kinds.{Content, own, near, messageOf, isYes, properTo, againTo}
+use Rattle.kinds.specs.Kinds.{Content, own, near, isYes, properTo, againTo}
 use Rattle.kinds.specs.Views.{View, Learns, Retires, Takes, raised, Hears, first, late, again}
 use Rattle.exchange.specs.Laws.{law-again}
 use Rattle.exchange.specs.KindFacts.{Names}
@@ -75,9 +75,6 @@ numbered {X = X} R n c e =
 pub next-number : {s t : Script} {X Y : Side} → Reach s t X Y → X .view .next ≡ num (X .len)
 next-number R = reached R .forth .nums .next-is
 
-pub carried-number : {s t : Script} {X Y : Side} → Reach s t X Y → (i : ℕ) → i < X .len → messageOf (s i) .number ≡ num i
-carried-number R = reached R .forth .nums .carried
-
 -- A COPY THAT ARRIVES IN TIME
 
 -- the number is new, or old and never answered, or old and answered as the message may be
@@ -116,10 +113,6 @@ answered {X = X} R i x lt in-time C = answer-fits (left R (hears i x lt in-time 
 -- and a neighbour's message is never refused
 pub accepted : {s t : Script} {X Y : Side} {v : View} → Reach s t X Y → (i x : ℕ) (c : Message) → i < X .len → X .len ≤ i + 400 → s i ≡ near c → Hears (num i) (s i) x (Y .view) v → isYes x ≡ true
 accepted {X = X} R i x c lt in-time e C = answer-fits (left R (hears i x lt in-time C)) i x (told-here X i x) .1 c e
-
--- every copy of one message gets the same answer
-pub kept-answer : {s t : Script} {X Y : Side} → Reach s t X Y → (i x y : ℕ) → Mem x (X .given i) → Mem y (X .given i) → x ≡ y
-kept-answer R i x y m n = let N = reached R .forth .nums in some-inj (N .agree i x m) (N .agree i y n)
 
 -- AN ANSWER THAT ARRIVES IN TIME
 

@@ -6,6 +6,7 @@ use mathlib.Core.Option.{Option, none, some}
 use Prim.Native.Nat.{ℕ}
 use native.Mathlib.Omega.{arith}
 use lib.Dec.{eqb}
+use borrow.Author.Tests.{eq-eqb, eqb-true}
 use Rattle.message.specs.declared.Kind.{Kind}
 use Rattle.message.specs.declared.Kind.the-variants.{None, Fpl, Cpl, Est, Chg, Cnl, Rti, Rta, Rla, Lam, Lrm}
 use Rattle.message.specs.Record.{isChg}
@@ -17,7 +18,7 @@ use Rattle.deeds.specs.Message.{Message}
 use Rattle.deeds.specs.Deeds.{sameKey, deedBy, deedOf, old, new, changedKey, makes, may, mayOn, becomes, becomesOn, begins, isFiled, isCalm, isOffered, refers}
 use Rattle.rules.specs.Answers.{isAcceptance, isOffering, proper}
 use Rattle.rules.specs.Receiving as r
-use Rattle.kinds.specs.Tools.{guard-yes, and-yes, true-false, none-some, some-inj, eqb-yes, eqb-eq, key-yes, key-eq}
+use Rattle.kinds.specs.Tools.{guard-yes, and-yes, true-false, none-some, some-inj, key-yes, key-eq}
 use Rattle.kinds.specs.Kinds.{Content, orderly, effect, close, retires, Dead, messageOf, answerKind, properTo, againTo}
 
 -- WHICH DEED IT IS
@@ -89,7 +90,7 @@ unfolding may mayOn becomes becomesOn isOffered
 close-is c x z e =
     let p = closing c (some x) z e in
     let q = and-yes (isOffered (x .handoff)) (eqb (c .reference) (x .offer)) (p .0) in
-    (q .0, eqb-eq (c .reference) (x .offer) (q .1), ap (λ (x : Flight). isOffered (x .handoff)) (some-inj (p .1) refl))
+    (q .0, eqb-true (c .reference) (x .offer) (q .1), ap (λ (x : Flight). isOffered (x .handoff)) (some-inj (p .1) refl))
 
 -- WHAT IS KNOWN WHERE AN OWNER'S MESSAGE IS APPLIED
 
@@ -228,14 +229,14 @@ law-unused p x y z n e =
 -- exactly what is an offer, of that key and number
 retires-yes : (c p : Message) → deedOf p ≡ Offers → old p ≡ old c → c .reference ≡ p .number → retires c p ≡ true
 unfolding retires r.retires isOffering
-retires-yes c p o k n = λ i. (isOffering (o i) && key-yes (old p) (old c) k i) && eqb-yes (c .reference) (p .number) n i
+retires-yes c p o k n = λ i. (isOffering (o i) && key-yes (old p) (old c) k i) && eq-eqb (c .reference) (p .number) n i
 
 retires-is : (c p : Message) → retires c p ≡ true → (deedOf p ≡ Offers) × (old p ≡ old c) × (c .reference ≡ p .number)
 unfolding retires r.retires
 retires-is c p e =
     let a = and-yes (isOffering (deedOf p) && sameKey (old p) (old c)) (eqb (c .reference) (p .number)) e in
     let b = and-yes (isOffering (deedOf p)) (sameKey (old p) (old c)) (a .0) in
-    (offers-is (deedOf p) (b .0), key-eq (old p) (old c) (b .1), eqb-eq (c .reference) (p .number) (a .1))
+    (offers-is (deedOf p) (b .0), key-eq (old p) (old c) (b .1), eqb-true (c .reference) (p .number) (a .1))
 
 -- what a message leaves and a neighbour can close is an offer, which the closing retires; or the closing was possible before, and
 -- the order does not matter
@@ -279,5 +280,5 @@ law-again c x e = go (eqb x 2) refl
     go : (b : Bool) → eqb x 2 ≡ b → againTo c x ≡ true
     go false h = ap (λ (b : Bool). not (b && not (isOffering (deedOf (messageOf c))))) h
     go true h =
-        let t : properTo c 2 ≡ true = subst (λ (n : ℕ). properTo c n ≡ true) (eqb-eq x 2 h) e in
+        let t : properTo c 2 ≡ true = subst (λ (n : ℕ). properTo c n ≡ true) (eqb-true x 2 h) e in
         λ i. not (h i && not (t i))

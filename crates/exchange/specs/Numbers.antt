@@ -8,11 +8,12 @@ use Prim.Native.Nat.{ℕ, _+_, _-_, _%_, _≤_, _<_}
 use native.Mathlib.Omega.{arith}
 use native.Mathlib.Decide.{decLt}
 use lib.Dec.{leb}
+use borrow.Author.Tests.{le-leb, lt-leb}
 use Rattle.head.specs.declared.Standing.the-variants.{New, Old}
 use Rattle.head.specs.Head.{standing, past, is-same, is-new, is-old}
 use Rattle.answers.specs.Given.{after}
 use Rattle.deeds.specs.Message.{Message}
-use Rattle.kinds.specs.Tools.{upd, upd-same, upd-other, same?, leb-yes, leb-no, none-some, some-inj}
+use Rattle.kinds.specs.Tools.{upd, upd-same, upd-other, same?, none-some, some-inj}
 use Rattle.kinds.specs.Kinds.{Content, near, messageOf, properTo, isYes}
 use Rattle.kinds.specs.Views.{gap}
 use Rattle.exchange.specs.Runs.{Script, num, Mem, here, there, more}
@@ -49,7 +50,7 @@ past-behind a b h k n = omega arith
 
 after-in : (h n k d e : ℕ) → gap k h ≡ d → gap n h ≡ e → 1 ≤ d → d ≤ e → after h n k ≡ true
 unfolding after
-after-in h n k d e p q a b = rw (p, q, leb-yes 1 d a, leb-yes d e b) refl
+after-in h n k d e p q a b = rw (p, q, le-leb 1 d a, le-leb d e b) refl
 
 after-same : (h n k : ℕ) → gap k h ≡ 0 → after h n k ≡ false
 unfolding after
@@ -57,7 +58,7 @@ after-same h n k e = rw e refl
 
 after-far : (h n k : ℕ) → gap n h < gap k h → after h n k ≡ false
 unfolding after
-after-far h n k a = rw (leb-no (gap k h) (gap n h) a) (both (leb 1 (gap k h)))
+after-far h n k a = rw (lt-leb (gap k h) (gap n h) a) (both (leb 1 (gap k h)))
   where
     both : (b : Bool) → (b && false) ≡ false
     both true = refl

@@ -8,7 +8,8 @@ use Prim.Native.Nat.{ℕ, zero, suc, _+_, _≤_, _<_}
 use native.Mathlib.Omega.{arith}
 use native.Mathlib.Decide.{decLt}
 use lib.Dec.{leb}
-use Rattle.kinds.specs.Tools.{upd, upd-same, upd-other, same?, and-yes, true-false, none-some, cons-nil, leb-yes, leb-le}
+use borrow.Author.Tests.{le-leb, leb-true}
+use Rattle.kinds.specs.Tools.{upd, upd-same, upd-other, same?, and-yes, true-false, none-some, cons-nil}
 use Rattle.kinds.specs.Kinds.{Content}
 use Rattle.kinds.specs.Views.{gap}
 use Rattle.exchange.specs.Runs.{Script, num, more}
@@ -138,8 +139,8 @@ module _ {s : Script} {w : Open} {len : ℕ} {given : ℕ → List ℕ} (U : Una
 
           go : (o : Option Content) → w (num i) ≡ o → (i : ℕ) × Waiting s w len i × (q i ≡ true)
           go none z = absurd (true-false (v .0) (ap (isSome {A = Content}) z))
-          go (some c) z = (i, is-waiting i c a (leb-le len (i + 400) (u .0)) z, v .1)
+          go (some c) z = (i, is-waiting i c a (leb-true len (i + 400) (u .0)) z, v .1)
 
       nope : (i : ℕ) → Waiting s w len i → (b : Bool) → q i ≡ b → (leb len (i + 400) && (isSome (w (num i)) && q i)) ≡ false → q i ≡ false
       nope i o false z e = z
-      nope i o true z e = absurd (true-false (rw (leb-yes len (i + 400) (o .1), o .2, z) refl) e)
+      nope i o true z e = absurd (true-false (rw (le-leb len (i + 400) (o .1), o .2, z) refl) e)

@@ -12,9 +12,6 @@ use Rattle.scan.specs.declared.Class.the-variants.{Letter, Octal, Alnum}
 use Rattle.scan.specs.Grammar.{G, run, Derives}
 use Rattle.scan.specs.Texts.{opt}
 use Rattle.fields.specs.Fields.{in08, in09, in10, timed, in14, in15, rest16, in18}
-use Rattle.message.specs.declared.Record.{Record}
-use Rattle.message.specs.declared.Verdict.the-variants.{Read}
-use Rattle.message.specs.Reading.{Judged}
 use Rattle.flights.specs.Flight as f
 use Rattle.flights.specs.Flight.{Status, filed, active, Handoff, Flight, Timed, Offered, Sound}
 use Rattle.flights.specs.Decoded.{SoundPlace}
@@ -23,10 +20,10 @@ use Rattle.excerpt.specs.Said.{Said}
 use Rattle.excerpt.specs.ByKind.{Filed, Coordinated}
 use Rattle.deeds.specs.declared.Deed.{Deed}
 use Rattle.deeds.specs.declared.Deed.the-variants.{Files, Enters, Amends, Estimates, Cancels, Offers, Retracts, Accepts, Nothing}
-use Rattle.deeds.specs.Message.{Message, messageOf}
+use Rattle.deeds.specs.Message.{Message}
 use Rattle.deeds.specs.Deeds.{Key, deedOf, orHeld, old, changedKey, new, isFiled, isCalm, isOffered, isNone, refers, codeFits, mayOn, makes, may, made, withField, amended, estimated, becomesOn, begins, becomes}
 use Rattle.perform.specs.Performed.{offered-sound, accepted-sound, none-sound}
-use Rattle.keeping.specs.Said.{Timely, Says, Stated, stated}
+use Rattle.keeping.specs.Said.{Timely, Says, Stated}
 
 -- the key under which a flight stands
 abbrev pub keyOf : Flight → Key
@@ -219,7 +216,3 @@ pub becomes-stated : (m : Message) → Stated m → (x y : Option Flight) → ma
 unfolding may becomes
 becomes-stated m t none y e s k = begins-sound m (t .number) (deedOf m) (t .says) e
 becomes-stated m t (some x) y e s k = becomes-on m (t .number) x s k (deedOf m) y (t .says) e
-
--- of a text that is read
-pub becomes-sound : (w : List ℕ) (r : Record) → Judged w Read r → (x y : Option Flight) → may (deedOf (messageOf w r)) (messageOf w r) x y ≡ true → SoundPlace x → Under (old (messageOf w r)) x → Leaves (messageOf w r) (becomes (deedOf (messageOf w r)) (messageOf w r) x)
-becomes-sound w r j = becomes-stated (messageOf w r) (stated w r j)

@@ -7,6 +7,7 @@ use Prim.Native.Nat.{ℕ, zero, suc, _+_, _-_, _%_, _≤_, _<_}
 use native.Mathlib.Omega.{arith}
 use lib.ListN.{length, getD}
 use lib.Dec.{eqb, leb}
+use borrow.Author.Tests.{eq-eqb}
 use Rattle.scan.specs.Bools.{neither}
 use Rattle.message.specs.declared.Kind.{Kind}
 use Rattle.message.specs.declared.Kind.the-variants.{Rla}
@@ -34,8 +35,8 @@ use Rattle.rules.specs.Answers.{answerTo, proper, isGood, isOffering, isAccepta
 use Rattle.rules.specs.Laws.{answer-value}
 use Rattle.response.specs.Answering.{answerText}
 use Rattle.rules.specs.Receiving.{directed, waitingAt, settledSent, settled, settle, settleHeld, settleAt, hearAnswer, retires, retireHeld, retireAt, retired, about, handled, giving, hearFirst, raised, hearAgain, hearOld, hearMessage, hear, receiveBy, receive}
-use Rattle.rules.specs.Sending.{anyWaiting, tooOld, naming, mayBeSent, fills, sending, sendAt, send, resendHeld, resendAt, resend}
-use Rattle.kinds.specs.Tools.{true-false, eqb-yes}
+use Rattle.rules.specs.Sending.{anyWaiting, tooOld, naming, mayBeSent, fills, sending, sendAt, send}
+use Rattle.kinds.specs.Tools.{true-false}
 use Rattle.kinds.specs.Ends.{SoundEnd}
 use Rattle.keeping.specs.Said.{Stated, stated}
 use Rattle.keeping.specs.Applied.{get-below, applied-stated}
@@ -235,7 +236,7 @@ other-number : (n : ℕ) (q : Waiting) → tooOld n q ≡ false → q .number �
 unfolding tooOld
 other-number n q a e =
     let d : (n + 1000 - q .number) % 1000 ≡ 0 = omega arith in
-    true-false (eqb-yes ((n + 1000 - q .number) % 1000) 0 d) (neither (eqb ((n + 1000 - q .number) % 1000) 0) (leb 400 ((n + 1000 - q .number) % 1000)) a .0)
+    true-false (eq-eqb ((n + 1000 - q .number) % 1000) 0 d) (neither (eqb ((n + 1000 - q .number) % 1000) 0) (leb 400 ((n + 1000 - q .number) % 1000)) a .0)
 
 module _ (e : End) (s : SoundEnd e) (w : List ℕ) (r : Record) (j : Judged w Read r) (k : isAnswer (r .kind) ≡ false) (o : cut w (r .parts .number .sender) ≡ e .head .ours) (p : cut w (r .parts .number .receiver) ≡ e .head .partners) (n : r .figures .number ≡ e .head .next) where
   its-stated : Stated (messageIn w)
@@ -280,20 +281,3 @@ module _ (e : End) (s : SoundEnd e) (w : List ℕ) (r : Record) (j : Judged w Re
 
   pub send-sound : (room : ℕ) (e′ : End) (t : List ℕ) → send room w e ≡ done e′ t → Stays e e′
   send-sound room = send-leads room (lowestFree (e .unanswered)) refl
-
--- RESENDING changes nothing
-
-given-same : (b : Bool) (e e′ : End) (u t : List ℕ) → cond b (done e u) (refused (number 2)) ≡ done e′ t → e′ ≡ e
-given-same true e e′ u t q = sym (done-end e e′ u t q)
-given-same false e e′ u t q = let z : _≡_ {A = ℕ} 0 1 = cc in absurd (omega arith)
-
-resent-held : (o : Option Waiting) (room : ℕ) (e e′ : End) (t : List ℕ) → resendHeld o room e ≡ done e′ t → e′ ≡ e
-resent-held none room e e′ t q = let z : _≡_ {A = ℕ} 0 1 = cc in absurd (omega arith)
-resent-held (some x) room e e′ t q = given-same (leb (length (x .text)) room) e e′ (x .text) t q
-
-resent-at : (p : Place) (room : ℕ) (e e′ : End) (t : List ℕ) → resendAt p room e ≡ done e′ t → e′ ≡ e
-resent-at Nowhere room e e′ t q = let z : _≡_ {A = ℕ} 0 1 = cc in absurd (omega arith)
-resent-at (At i) room e e′ t q = resent-held (get i (e .unanswered)) room e e′ t q
-
-pub resend-same : (room n : ℕ) (e e′ : End) (t : List ℕ) → resend room n e ≡ done e′ t → e′ ≡ e
-resend-same room n e e′ t q = resent-at (waitingAt n (e .unanswered)) room e e′ t q

@@ -12,7 +12,7 @@ use Rattle.flights.specs.Flight.{Flight}
 use Rattle.deeds.specs.declared.Deed.the-variants.{Retracts}
 use Rattle.deeds.specs.Message.{Message}
 use Rattle.deeds.specs.Deeds.{Key, sameKey, deedOf, old, new, may, becomes, makes, isFiled, isCalm, isOffer}
-use Rattle.rules.specs.Answers.{isAcceptance, isOffering, goodAnswer, proper}
+use Rattle.rules.specs.Answers.{isAcceptance, isOffering, proper}
 use Rattle.rules.specs.Receiving as r
 use Rattle.rules.specs.Sending.{oneOf}
 use Rattle.kinds.specs.Tools.{guard, under}

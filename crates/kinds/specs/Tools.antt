@@ -1,12 +1,13 @@
 -- Small tools: guards, and functions that are changed at one number or under one key.
 use mathlib.Core.Path.{_≡_, refl, sym, _∙_, ap, subst}
 use mathlib.Core.Logic.{_⊎_, inl, inr, _≢_}
-use mathlib.Core.Bool.{Bool, true, false, not, cond, _&&_, _||_}
+use mathlib.Core.Bool.{Bool, true, false, cond, _&&_}
 use mathlib.Core.Option.{Option, none, some}
 use mathlib.Core.List.{List, [], _∷_}
-use Prim.Native.Nat.{ℕ, zero, suc, _+_, _≤_, _<_}
+use Prim.Native.Nat.{ℕ}
 use native.Mathlib.Decide.{ℕ-discrete}
-use lib.Dec.{T, eqb, ltb, leb, eqb→eq, eqb-refl, ltb→lt, leb→le, lt→ltb, le→leb, nltb→le, nleb→lt}
+use lib.Dec.{T, eqb}
+use borrow.Author.Tests.{eq-eqb, ne-eqb}
 use Rattle.deeds.specs.Deeds.{Key, sameKey}
 use Rattle.places.specs.Bytes.{same, same-is}
 
@@ -33,26 +34,13 @@ T→≡ false t = absurd t
 pub ≡→T : (b : Bool) → b ≡ true → T b
 ≡→T b e = subst T (sym e) tt
 
-pub eqb-yes : (a b : ℕ) → a ≡ b → eqb a b ≡ true
-eqb-yes a b p = subst (λ (c : ℕ). eqb a c ≡ true) p (T→≡ (eqb a a) (eqb-refl a))
-
-pub eqb-no : (a b : ℕ) → a ≢ b → eqb a b ≡ false
-eqb-no a b n = go (eqb a b) refl
-  where
-    go : (c : Bool) → eqb a b ≡ c → eqb a b ≡ false
-    go true e = absurd (n (eqb→eq a b (≡→T (eqb a b) e)))
-    go false e = e
-
-pub eqb-eq : (a b : ℕ) → eqb a b ≡ true → a ≡ b
-eqb-eq a b e = eqb→eq a b (≡→T (eqb a b) e)
-
 pub upd-same : {A : Type 0} (f : ℕ → A) (k : ℕ) (v : A) (j : ℕ) → j ≡ k → upd f k v j ≡ v
 unfolding upd
-upd-same f k v j p = rw (eqb-yes j k p) refl
+upd-same f k v j p = rw (eq-eqb j k p) refl
 
 pub upd-other : {A : Type 0} (f : ℕ → A) (k : ℕ) (v : A) (j : ℕ) → j ≢ k → upd f k v j ≡ f j
 unfolding upd
-upd-other f k v j p = rw (eqb-no j k p) refl
+upd-other f k v j p = rw (ne-eqb j k p) refl
 
 pub guard-yes : {A : Type 0} (b : Bool) (x : Option A) (a : A) → guard b x ≡ some a → (b ≡ true) × (x ≡ some a)
 unfolding guard
@@ -72,22 +60,6 @@ none-some {A} {o} {a} p q = mathlib.Core.Option.Option·none-ne-some a (sym p �
 pub some-inj : {A : Type 0} {o : Option A} {a b : A} → o ≡ some a → o ≡ some b → a ≡ b
 some-inj {A} {o} {a} {b} p q = mathlib.Core.Option.Option·some-injective a b (sym p ∙ q)
 
-pub ltb-yes : (a b : ℕ) → ltb a b ≡ true → a < b
-ltb-yes a b e = ltb→lt a b (≡→T (ltb a b) e)
-
-pub ltb-lt : (a b : ℕ) → a < b → ltb a b ≡ true
-ltb-lt a b h = T→≡ (ltb a b) (lt→ltb a b h)
-
-pub ltb-no : (a b : ℕ) → ltb a b ≡ false → b ≤ a
-ltb-no a b e = nltb→le a b (subst (λ (c : Bool). T (not c)) (sym e) tt)
-
-pub ltb-le : (a b : ℕ) → b ≤ a → ltb a b ≡ false
-ltb-le a b h = go (ltb a b) refl
-  where
-    go : (c : Bool) → ltb a b ≡ c → ltb a b ≡ false
-    go true e = absurd (native.Mathlib.Nat.not-le-of-lt (ltb-yes a b e) h)
-    go false e = e
-
 nil? : {A : Type 0} → List A → Bool
 nil? [] = true
 nil? (x ∷ l) = false
@@ -99,19 +71,6 @@ cons-nil p q = true-false (ap nil? q) (ap nil? p)
 pub nil-or : {A : Type 0} (l : List A) → (l ≡ []) ⊎ (l ≡ [] → ⊥)
 nil-or [] = inl refl
 nil-or (x ∷ l) = inr (λ e. cons-nil refl e)
-
-pub leb-yes : (a b : ℕ) → a ≤ b → leb a b ≡ true
-leb-yes a b h = T→≡ (leb a b) (le→leb a b h)
-
-pub leb-no : (a b : ℕ) → b < a → leb a b ≡ false
-leb-no a b h = go (leb a b) refl
-  where
-    go : (c : Bool) → leb a b ≡ c → leb a b ≡ false
-    go true e = absurd (native.Mathlib.Nat.not-le-of-lt h (leb→le a b (≡→T (leb a b) e)))
-    go false e = e
-
-pub leb-le : (a b : ℕ) → leb a b ≡ true → a ≤ b
-leb-le a b e = leb→le a b (≡→T (leb a b) e)
 
 -- KEYS
 

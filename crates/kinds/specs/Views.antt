@@ -2,10 +2,9 @@
 -- The calls are said by what follows from them. That document 01's rules follow these is shown in pair.
 use mathlib.Core.Path.{_≡_}
 use mathlib.Core.Logic.{_⊎_}
-use mathlib.Core.Bool.{Bool, true, false, cond, _&&_}
+use mathlib.Core.Bool.{true, false, cond}
 use mathlib.Core.Option.{Option, none, some}
 use Prim.Native.Nat.{ℕ, _+_, _-_, _%_, _≤_, _<_}
-use lib.Dec.{eqb, ltb, leb}
 use Rattle.flights.specs.Flight.{Flight}
 use Rattle.head.specs.declared.Standing.the-variants.{New, Old}
 use Rattle.head.specs.Head.{standing}
@@ -13,7 +12,7 @@ use Rattle.answers.specs.Given.{after}
 use Rattle.deeds.specs.Message.{Message}
 use Rattle.deeds.specs.Deeds.{Key, deedOf, old, makes}
 use Rattle.kinds.specs.Tools.{upd, under}
-use Rattle.kinds.specs.Kinds.{Content, own, near, messageOf, Table, eff, put, grown, close, retires, takes, clash, isYes, properTo, againTo}
+use Rattle.kinds.specs.Kinds.{Content, own, near, messageOf, Table, eff, put, grown, close, retires, takes, clash, isYes, properTo}
 
 pub record View : Type 0 where
   pub next : ℕ

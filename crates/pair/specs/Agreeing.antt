@@ -1,19 +1,16 @@
 -- THE TWO ENDS AGREE: from what is seen by key to the bytes of the tables.
 use mathlib.Core.Path.{_≡_, refl, sym, ap, _∙_, subst}
-use mathlib.Core.Logic.{_⊎_, inl, inr}
-use mathlib.Core.Bool.{Bool, true, false, cond, _||_}
+use mathlib.Core.Logic.{inl, inr}
+use mathlib.Core.Bool.{Bool, true, false, _||_}
 use mathlib.Core.Option.{Option, none, some}
 use mathlib.Core.List.{List}
-use Prim.Native.Nat.{ℕ, _<_}
+use Prim.Native.Nat.{ℕ}
 use native.Mathlib.Omega.{arith}
-use lib.ListN.{length}
 use Rattle.places.specs.declared.Place.{Place}
 use Rattle.places.specs.declared.Place.the-variants.{At, Nowhere}
-use Rattle.places.specs.Places.{get}
 use Rattle.flights.specs.Flight.{Flight, recordOf}
 use Rattle.flights.specs.Formed.{TableFormed}
 use Rattle.flights.specs.Decoded.{flightsIn, flights-many, record-at, found-places}
-use Rattle.unanswered.specs.Waiting.{Waiting}
 use Rattle.deeds.specs.Message.{Message}
 use Rattle.deeds.specs.Deeds.{Key, sameKey, deedOf, old, new}
 use Rattle.deeds.specs.Applying.{whereIs}
@@ -32,7 +29,6 @@ use Rattle.views.specs.Waits.{waits-some, get-below}
 use Rattle.views.specs.Learnt.{content-own, content-near, content-message}
 use Rattle.pair.specs.World.{Side}
 use Rattle.pair.specs.Claims.{bytesAt, recordUnder, Holds, Agrees}
-use Rattle.pair.specs.Follows.{Kept}
 use Rattle.pair.specs.Followed.{Follows}
 
 -- THE RECORD OF A FLIGHT

@@ -1,21 +1,16 @@
 -- WHAT ARRIVES IN TIME IS TAKEN: a message for want of room alone is not, an answer only where its message is answered already.
 use mathlib.Core.Path.{_≡_, refl, sym, ap, _∙_, subst}
 use mathlib.Core.Logic.{_⊎_, inl, inr}
-use mathlib.Core.Bool.{Bool, true, false, cond, _||_}
+use mathlib.Core.Bool.{true}
 use mathlib.Core.Option.{Option, none, some}
 use mathlib.Core.List.{List}
 use Prim.Native.Nat.{ℕ, _+_, _≤_, _<_}
 use native.Mathlib.Omega.{arith}
 use lib.ListN.{length}
-use lib.Dec.{eqb}
 use Rattle.message.specs.declared.Kind.{Kind}
-use Rattle.message.specs.declared.Kind.the-variants.{Lam, Rla, Lrm, Rti}
-use Rattle.message.specs.declared.Verdict.the-variants.{Read}
-use Rattle.message.specs.Reader.{verdict, verdict-only}
+use Rattle.message.specs.declared.Kind.the-variants.{Lam}
 use Rattle.head.specs.declared.Standing.the-variants.{New, Old}
 use Rattle.head.specs.Head.{standing}
-use Rattle.unanswered.specs.Waiting.{isAnswer}
-use Rattle.deeds.specs.Message.{Message}
 use Rattle.deeds.specs.Deeds.{deedBy, deedOf}
 use Rattle.memory.specs.End.{End, Memory}
 use Rattle.rules.specs.Replies.{Refusal, Reply, refused, done, number as by}
@@ -26,27 +21,24 @@ use Rattle.response.specs.Answering.{answerText}
 use Rattle.calls.specs.declared.Outcome.{Outcome}
 use Rattle.calls.specs.Calls.{Called, Comes}
 use Rattle.kinds.specs.Tools.{true-false, none-some, some-inj}
-use Rattle.kinds.specs.Kinds.{Content, near, contentOf, isYes, againTo, answerKind, properTo}
+use Rattle.kinds.specs.Kinds.{Content, contentOf, isYes, againTo, answerKind}
 use Rattle.kinds.specs.Views.{View, Hears}
 use Rattle.kinds.specs.Ends.{viewOf, waitsIn, keptIn}
 use Rattle.exchange.specs.Runs.{num}
 use Rattle.exchange.specs.Agreement as agreement
-use Rattle.answering.specs.Answered.{Answerable, answer-read}
+use Rattle.answering.specs.Answered.{Answerable}
 use Rattle.keeping.specs.Memory.{sound-of}
 use Rattle.views.specs.Learnt.{content-near, learn-done, learn-none}
-use Rattle.views.specs.Heard.{Heeded, Repeatable, hear-open, receive-refused}
+use Rattle.views.specs.Heard.{Heeded, receive-refused}
 use Rattle.pair.specs.World.{Copy, Among, Side, count, InTime, number, given}
 use Rattle.pair.specs.Came.{Refuses, Gives, came, came-refused, came-done}
-use Rattle.pair.specs.Parts.{kind-is, hear-seen, Heard, answer-heard}
-use Rattle.pair.specs.Follows.{script, Told, Replies, Kept, endIn}
+use Rattle.pair.specs.Parts.{hear-seen, hear-refused, Heard, answer-heard}
+use Rattle.pair.specs.Follows.{script, Told, Replies, endIn}
 use Rattle.pair.specs.Followed.{Follows}
 
 module _ {a b : List ℕ} {σ τ : ℕ → List ℕ} {X Y : Side} (F : Follows a b σ τ X Y) where
   -- A MESSAGE
   module _ (c : Copy) (l : Among c (X .messages)) (t : InTime X c) where
-    m : Message
-    m = messageIn (c .text)
-
     lt : c .index < F .first .len
     lt = omega (arith, F .here .copies c l .0, F .here .len)
 
@@ -58,12 +50,6 @@ module _ {a b : List ℕ} {σ τ : ℕ → List ℕ} {X Y : Side} (F : Follows a
 
     told : Told a b (c .index) (c .text)
     told = subst (Told a b (c .index)) (sym is) (F .here .told (c .index) (F .here .copies c l .0))
-
-    read : verdict (c .text) ≡ Read
-    read = sym (verdict-only (c .text) Read (told .says .its) (told .says .read))
-
-    no-answer : isAnswer (messageIn (c .text) .kind) ≡ false
-    no-answer = ap isAnswer (kind-is (c .text) (told .says .its) (told .says .read)) ∙ told .says .message
 
     heeded : Heeded (messageIn (c .text)) (endIn Y)
     heeded = go (subst (agreement.Timely (script σ (c .index)) (num (c .index))) (F .there .view) (agreement.timely (F .reach) (c .index) lt in-time))
@@ -81,10 +67,21 @@ module _ {a b : List ℕ} {σ τ : ℕ → List ℕ} {X Y : Side} (F : Follows a
       arrival : ((x : Refusal) × (receive (length out) (c .text) (endIn Y) ≡ refused x) × Refuses (Y .head) (Y .memory) o m′ out′ x) ⊎ ((e : End) × (s : List ℕ) × (receive (length out) (c .text) (endIn Y) ≡ done e s) × Gives o m′ out′ e s)
       arrival = came (receive (length out) (c .text) (endIn Y)) (receive-refused (length out) (c .text) (endIn Y)) (Y .head) (Y .memory) out o m′ out′ (q .formed (F .there .formed))
 
+      -- it is refused for want of room only
+      wanting : (x : Refusal) → receive (length out) (c .text) (endIn Y) ≡ refused x → (x ≡ by 2) × (length out < 1077)
+      wanting x p =
+          hear-refused (endIn Y) (sound-of (Y .head) (Y .memory) (F .there .formed)) (c .text) (told .says .its) (told .says .read) (told .says .message) (told .directed (Y .head) (F .there .ours) (F .there .partners)) heeded (length out) x p
+
       pub message-taken : (number o ≡ 0) ⊎ (number o ≡ 2)
       message-taken = elim arrival [
-        | inl f ↦ inr (ap (λ (x : Refusal). x .number) (f .2 .number ∙ hear-open (length out) (c .text) (endIn Y) read (told .directed (Y .head) (F .there .ours) (F .there .partners)) no-answer heeded (f .0) (f .1)))
+        | inl f ↦ inr (ap (λ (x : Refusal). x .number) (f .2 .number ∙ wanting (f .0) (f .1) .0))
         | inr f ↦ inl (f .3 .number)
+      ]
+
+      pub message-answered : 1077 ≤ length out → number o ≡ 0
+      message-answered h = elim arrival [
+        | inl f ↦ absurd (omega (arith, wanting (f .0) (f .1) .1))
+        | inr f ↦ f .3 .number
       ]
 
       -- an acceptance is answered LAM
@@ -129,9 +126,6 @@ module _ {a b : List ℕ} {σ τ : ℕ → List ℕ} {X Y : Side} (F : Follows a
 
     pub heard : Heard a b (c .index) (reply .1 .value) (X .head) (c .text)
     heard = subst (Heard a b (c .index) (reply .1 .value) (X .head)) (sym (reply .1 .is)) (answer-heard a b (c .index) (σ (c .index)) (F .here .told (c .index) (reply .0) .says) (reply .1 .value) (reply .1 .may) (X .head) (F .here .ours) (F .here .partners))
-
-    waits : ℕ → Option Content
-    waits = waitsIn (endIn X .unanswered)
 
     -- it is taken where its message waits, and refused by 5 where not
     pub answer-waited : (room : ℕ) (w : Content) → waitsIn (endIn X .unanswered) (num (c .index)) ≡ some w → (e : End) × (s : List ℕ) × (receive room (c .text) (endIn X) ≡ done e s)

@@ -1,22 +1,21 @@
 -- WHAT A CALL ON A WELL FORMED END HAS LEFT: nothing has changed, or the memory holds the next end and a text was given.
-use mathlib.Core.Path.{_≡_, refl, sym, ap, _∙_, subst}
+use mathlib.Core.Path.{_≡_, refl, ap, _∙_}
 use mathlib.Core.Logic.{_⊎_, inl, inr}
-use mathlib.Core.Bool.{Bool, true, false, cond}
-use mathlib.Core.Option.{Option, none, some}
-use mathlib.Core.List.{List, [], _++_}
+use mathlib.Core.Bool.{Bool, cond}
+use mathlib.Core.Option.{none, some}
+use mathlib.Core.List.{List}
 use Prim.Native.Nat.{ℕ, _≤_}
 use native.Mathlib.Omega.{arith}
 use lib.ListN.{length, take, drop}
 use lib.Seq.{take-append-seam}
 use lib.Dec.{eqb}
+use borrow.Author.Tests.{ne-eqb}
 use Rattle.head.specs.declared.Head.{Head}
-use Rattle.memory.specs.End.{End, Memory, Formed, endOf, memoryOf}
+use Rattle.memory.specs.End.{End, Memory, memoryOf}
 use Rattle.rules.specs.Replies.{Refusal, Reply, refused, done}
 use Rattle.calls.specs.declared.Answer.{Answer}
-use Rattle.calls.specs.declared.Answer.the-variants.{Done}
 use Rattle.calls.specs.declared.Outcome.{Outcome}
 use Rattle.calls.specs.Calls.{refusalIn, lengthIn, Comes}
-use Rattle.kinds.specs.Tools.{eqb-no}
 use Rattle.pair.specs.World.{number, given}
 
 pub record Refuses (h : Head) (m : Memory) (o : Outcome) (m′ : Memory) (out′ : List ℕ) (x : Refusal) : Type 0 where
@@ -40,7 +39,7 @@ module _ (h : Head) (m : Memory) (out : List ℕ) (o : Outcome) (m′ : Memory) 
     number = c .0;
     head = c .1;
     memory = c .2;
-    given = ap (λ (b : Bool). cond b (some (take (lengthIn (o .answer)) out′)) none) (eqb-no (number o) 0 (λ z. let q : number o ≡ x .number = ap (λ (y : Refusal). y .number) (c .0) in omega arith));
+    given = ap (λ (b : Bool). cond b (some (take (lengthIn (o .answer)) out′)) none) (ne-eqb (number o) 0 (λ z. let q : number o ≡ x .number = ap (λ (y : Refusal). y .number) (c .0) in omega arith));
   }
 
   pub came-done : (e : End) (t : List ℕ) → Comes (done e t) h m out o m′ out′ → Gives o m′ out′ e t

@@ -6,7 +6,7 @@ use mathlib.Core.Bool.{true}
 use mathlib.Core.Option.{some}
 use mathlib.Core.List.{List}
 use lib.ListN.{length}
-use Prim.Native.Nat.{ℕ}
+use Prim.Native.Nat.{ℕ, _≤_}
 use Rattle.message.specs.declared.Kind.the-variants.{Lam}
 use Rattle.deeds.specs.Deeds.{Key, deedOf}
 use Rattle.memory.specs.End.{Memory, Formed}
@@ -19,7 +19,7 @@ use Rattle.pair.specs.World.{Copy, Among, Side, InTime, number, given, c
 use Rattle.pair.specs.Claims.{Agrees, Unanswered}
 use Rattle.pair.specs.Followed.{followed, turned}
 use Rattle.pair.specs.Agreeing.{agreeing}
-use Rattle.pair.specs.Arriving.{message-taken, acceptance-taken, answer-taken}
+use Rattle.pair.specs.Arriving.{message-taken, message-answered, acceptance-taken, answer-taken}
 use Rattle.pair.specs.NoMore.{ran, given-stays, answers-stay, gone}
 
 -- either of two partners may be called the first
@@ -54,6 +54,13 @@ pub always-answered : {a b : List ℕ} {X Y : Side} → Reach a b X Y
     → (out out′ : List ℕ) (o : Outcome) (m : Memory) → Called (receive (length out) (c .text)) (Y .head) (Y .memory) out o m out′
     → (number o ≡ 0) ⊎ (number o ≡ 2)
 always-answered R c l t out out′ o m q = message-taken (followed R) c l t out out′ o m q
+
+-- WITH ROOM FOR THE LONGEST TEXT THAT IS READ it is never refused
+pub answered-with-room : {a b : List ℕ} {X Y : Side} → Reach a b X Y
+    → (c : Copy) → Among c (X .messages) → InTime X c
+    → (out out′ : List ℕ) (o : Outcome) (m : Memory) → Called (receive (length out) (c .text)) (Y .head) (Y .memory) out o m out′
+    → 1077 ≤ length out → number o ≡ 0
+answered-with-room R c l t out out′ o m q h = message-answered (followed R) c l t out out′ o m q h
 
 -- AN ACCEPTANCE IS NEVER ANSWERED LRM, but always LAM
 pub acceptance-stands : {a b : List ℕ} {X Y : Side} → Reach a b X Y

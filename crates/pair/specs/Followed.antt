@@ -1,12 +1,12 @@
 -- EVERY WORLD FOLLOWS A RUN, whose scripts are what its ends have sent.
 use mathlib.Core.Path.{_≡_, refl, sym, ap, _∙_, subst}
-use mathlib.Core.List.{List, [], _∷_}
+use mathlib.Core.List.{List, []}
 use mathlib.Core.Option.{Option, none, some}
-use Prim.Native.Nat.{ℕ, zero, _<_}
+use Prim.Native.Nat.{ℕ, _<_}
 use native.Mathlib.Omega.{arith}
 use lib.ListN.{length}
 use Rattle.flights.specs.Table.{places}
-use Rattle.memory.specs.End.{End, endOf}
+use Rattle.memory.specs.End.{End}
 use Rattle.rules.specs.Sending.{fresh}
 use Rattle.kinds.specs.Views.{Fresh}
 use Rattle.kinds.specs.Ends.{viewOf, SoundEnd}

@@ -1,13 +1,14 @@
 -- HOW A WORLD FOLLOWS A RUN that is seen by key and number (exchange): what each end holds, and what the texts of the channel are.
 use mathlib.Core.Path.{_≡_, refl, sym, ap, _∙_, subst}
-use mathlib.Core.Logic.{_⊎_, inl, inr, _≢_}
-use mathlib.Core.Bool.{Bool, true, false, cond}
+use mathlib.Core.Logic.{inl, inr}
+use mathlib.Core.Bool.{Bool, true, cond}
 use mathlib.Core.Option.{Option, none, some}
 use mathlib.Core.List.{List, [], _∷_}
-use Prim.Native.Nat.{ℕ, zero, suc, _+_, _-_, _%_, _≤_, _<_}
+use Prim.Native.Nat.{ℕ, _+_, _-_, _≤_, _<_}
 use native.Mathlib.Omega.{arith}
 use lib.ListN.{length}
 use lib.Dec.{eqb}
+use borrow.Author.Tests.{eq-eqb, ne-eqb}
 use Rattle.head.specs.declared.Head.{Head}
 use Rattle.places.specs.Places.{get}
 use Rattle.unanswered.specs.Waiting.{Waiting}
@@ -16,17 +17,15 @@ use Rattle.rules.specs.Reads.{messageIn}
 use Rattle.rules.specs.Receiving.{directed}
 use Rattle.response.specs.Answering.{answerText}
 use Rattle.calls.specs.declared.Outcome.{Outcome}
-use Rattle.kinds.specs.Tools.{upd, upd-same, upd-other, same?, eqb-yes, eqb-no}
-use Rattle.kinds.specs.Kinds.{Content, contentOf}
-use Rattle.kinds.specs.Views.{View}
+use Rattle.kinds.specs.Tools.{upd, upd-same, upd-other, same?}
+use Rattle.kinds.specs.Kinds.{contentOf}
 use Rattle.kinds.specs.Ends.{viewOf, SoundEnd}
 use Rattle.answering.specs.Answered.{Answerable}
 use Rattle.exchange.specs.Runs as run
-use Rattle.exchange.specs.Runs.{Script, num, Mem, become, grow, tell}
+use Rattle.exchange.specs.Runs.{Script, num, Mem}
 use Rattle.keeping.specs.Memory.{formed-of, end-back}
-use Rattle.pair.specs.World.{Copy, Among, here, there, Side, count, InTime, latest, given, logged, copied, changed, sent, resent, answered}
+use Rattle.pair.specs.World.{Copy, Among, here, there, Side, count, latest, given, logged, copied, changed, sent, resent, answered}
 use Rattle.pair.specs.Texts.{Says}
-use Rattle.pair.specs.Came.{Refuses, Gives}
 
 -- the messages that the texts say
 abbrev pub script : (ℕ → List ℕ) → Script
@@ -90,11 +89,11 @@ answered-none X j g n = λ i. record { head = X .head; memory = X .memory; log =
 
 pub text-newest : (w : List ℕ) (l : List (List ℕ)) → textAt (length l) (w ∷ l) ≡ w
 unfolding textAt
-text-newest w l = ap (λ (b : Bool). cond b w (textAt (length l) l)) (eqb-yes (length l) (length l) refl)
+text-newest w l = ap (λ (b : Bool). cond b w (textAt (length l) l)) (eq-eqb (length l) (length l) refl)
 
 pub text-older : (i : ℕ) (w : List ℕ) (l : List (List ℕ)) → i < length l → textAt i (w ∷ l) ≡ textAt i l
 unfolding textAt
-text-older i w l h = ap (λ (b : Bool). cond b w (textAt i l)) (eqb-no i (length l) (λ e. omega arith))
+text-older i w l h = ap (λ (b : Bool). cond b w (textAt i l)) (ne-eqb i (length l) (λ e. omega arith))
 
 -- THE NEXT END
 module _ (X : Side) (e : End) (s : SoundEnd e) (hd : Head) (m : Memory) (h : hd ≡ e .head) (k : m ≡ memoryOf e) where

@@ -1,35 +1,29 @@
 -- UNANSWERED NO MORE: once a copy of a message and then a copy of the answer given to it have arrived, and ever after.
 use mathlib.Core.Path.{_≡_, refl, sym, ap, _∙_, subst}
-use mathlib.Core.Logic.{_⊎_, inl, inr}
 use mathlib.Core.Option.{Option, none, some}
-use mathlib.Core.List.{List, _∷_}
-use Prim.Native.Nat.{ℕ, _+_, _≤_, _<_}
+use mathlib.Core.List.{List}
+use Prim.Native.Nat.{ℕ, _<_}
 use native.Mathlib.Omega.{arith}
 use lib.ListN.{length}
-use Rattle.places.specs.declared.Place.{Place}
-use Rattle.places.specs.declared.Place.the-variants.{At, Nowhere}
-use Rattle.places.specs.Places.{get}
-use Rattle.unanswered.specs.Waiting.{Waiting}
-use Rattle.memory.specs.End.{End, Memory, waitingIn, endOf}
-use Rattle.rules.specs.Replies.{Refusal, Reply, refused, done, number as by}
-use Rattle.rules.specs.Reads.{messageIn}
+use Rattle.memory.specs.End.{End, Memory, waitingIn}
+use Rattle.rules.specs.Replies.{Reply, number as by}
 use Rattle.rules.specs.Receiving.{receive}
 use Rattle.calls.specs.declared.Outcome.{Outcome}
 use Rattle.calls.specs.Calls.{Called, Comes}
 use Rattle.kinds.specs.Tools.{none-some}
 use Rattle.kinds.specs.Kinds.{Content}
 use Rattle.kinds.specs.Views.{View}
-use Rattle.kinds.specs.Ends.{viewOf, waitsIn}
+use Rattle.kinds.specs.Ends.{waitsIn}
 use Rattle.exchange.specs.Runs as run
 use Rattle.exchange.specs.Runs.{num}
 use Rattle.exchange.specs.Agreement as agreement
 use Rattle.keeping.specs.Memory.{sound-of}
 use Rattle.keeping.specs.Calls.{receive-sound}
-use Rattle.pair.specs.World.{Copy, Among, here, there, Side, count, InTime, latest, given, copied, changed, answered, Turn, sends, resends, hears, learns, Reach, left, right, Run, rest, thenLeft, thenRight}
+use Rattle.pair.specs.World.{Copy, Among, here, there, Side, InTime, latest, given, copied, changed, Turn, sends, resends, hears, learns, Reach, left, right, Run, rest, thenLeft, thenRight}
 use Rattle.pair.specs.Claims.{Unanswered}
-use Rattle.pair.specs.Came.{Refuses, Gives, came-refused, came-done}
+use Rattle.pair.specs.Came.{came-refused, came-done}
 use Rattle.pair.specs.Parts.{waits-held, latest-at, learn-seen}
-use Rattle.pair.specs.Follows.{script, textAt, Spells, Kept, endIn, next-end}
+use Rattle.pair.specs.Follows.{script, textAt, Spells, endIn, next-end}
 use Rattle.pair.specs.Followed.{Follows, Onto, follow, run-on, run-back, run-back-other}
 use Rattle.pair.specs.Arriving.{reply, heard, answer-waited, answer-late}
 

@@ -1,46 +1,44 @@
 -- WHAT THE OTHER ROOMS SHOW, in the forms that the steps need.
 use mathlib.Core.Path.{_≡_, refl, sym, ap, _∙_, subst}
-use mathlib.Core.Logic.{_⊎_, inl, inr}
+use mathlib.Core.Logic.{inl, inr}
 use mathlib.Core.Bool.{Bool, true, false, cond, _&&_}
-use mathlib.Core.Option.{Option, none, some}
+use mathlib.Core.Option.{none, some}
 use mathlib.Core.List.{List}
-use Prim.Native.Nat.{ℕ, suc, _+_, _-_, _%_, _≤_, _<_}
+use Prim.Native.Nat.{ℕ, _+_, _-_, _≤_, _<_}
 use native.Mathlib.Omega.{arith}
-use lib.ListN.{length}
 use lib.Dec.{eqb}
+use borrow.Author.Tests.{eq-eqb}
 use Rattle.scan.specs.Bools.{both}
 use Rattle.message.specs.declared.Kind.{Kind}
 use Rattle.message.specs.declared.Kind.the-variants.{None, Fpl, Cpl, Est, Chg, Cnl, Rti, Rta, Rla, Lam, Lrm}
 use Rattle.message.specs.declared.Record.{Record}
 use Rattle.message.specs.declared.Verdict.the-variants.{Read}
-use Rattle.message.specs.Reading.{Judged, cut}
+use Rattle.message.specs.Reading.{Judged}
 use Rattle.message.specs.Reader.{verdict, verdict-only}
 use Rattle.head.specs.declared.Head.{Head}
 use Rattle.places.specs.declared.Place.{Place}
 use Rattle.places.specs.declared.Place.the-variants.{At, Nowhere}
 use Rattle.places.specs.Bytes.{same, same-is}
 use Rattle.places.specs.Places.{Places, get, found-none}
-use Rattle.flights.specs.Flight.{Flight}
-use Rattle.flights.specs.Holding.{FlightsFormed}
 use Rattle.unanswered.specs.Waiting.{Waiting, isAnswer}
 use Rattle.excerpt.specs.Sizes.{number-small}
 use Rattle.deeds.specs.declared.Deed.the-variants.{Retracts, Accepts, Nothing}
-use Rattle.deeds.specs.Message.{Message, messageOf}
+use Rattle.deeds.specs.Message.{Message}
 use Rattle.deeds.specs.Deeds.{deedBy, rtaDeed, deedOf, inOrder, turned}
-use Rattle.deeds.specs.Applying.{allowed, applied}
-use Rattle.memory.specs.End.{End, Memory, Formed, endOf, memoryOf, numbered}
-use Rattle.rules.specs.Replies.{Refusal, Reply, refused, done}
+use Rattle.deeds.specs.Applying.{allowed}
+use Rattle.memory.specs.End.{End, numbered}
+use Rattle.rules.specs.Replies.{Refusal, refused, done, number}
 use Rattle.rules.specs.Reads.{readRecord, messageIn, read-message, read-record}
 use Rattle.rules.specs.Answers.{isAcceptance, isOffering}
 use Rattle.rules.specs.Receiving.{units, referred, directed, waitingAt, receive}
-use Rattle.rules.specs.Sending.{send, resend}
+use Rattle.rules.specs.Sending.{send}
 use Rattle.response.specs.Answering.{answerText}
-use Rattle.kinds.specs.Tools.{true-false, none-some, eqb-yes}
-use Rattle.kinds.specs.Kinds.{Content, contentOf, answerKind}
-use Rattle.kinds.specs.Views.{View, Sends, Learns, Hears}
+use Rattle.kinds.specs.Tools.{true-false, none-some}
+use Rattle.kinds.specs.Kinds.{contentOf, answerKind}
+use Rattle.kinds.specs.Views.{Learns, Hears}
 use Rattle.kinds.specs.Ends.{viewOf, SoundEnd, waitsIn}
 use Rattle.exchange.specs.Runs.{num}
-use Rattle.answering.specs.Answered.{Answerable, Answered, answer-read}
+use Rattle.answering.specs.Answered.{Answerable, Answered, answer-read, answer-short}
 use Rattle.keeping.specs.Applied.{applied-formed}
 use Rattle.keeping.specs.Calls as k
 use Rattle.views.specs.Waits.{waits-found, number-at, get-below}
@@ -72,6 +70,10 @@ kind-is w r j = ap (λ (m : Message). m .kind) (sym (read-message w r j))
 
 pub small : (w : List ℕ) (r : Record) → Judged w Read r → messageIn w .number ≤ 999
 small w r j = subst (λ (n : ℕ). n ≤ 999) (ap (λ (m : Message). m .number) (read-message w r j)) (number-small w r j)
+
+-- it has one record only
+judged-in : (w : List ℕ) (r : Record) → Judged w Read r → Judged w Read (readRecord w)
+judged-in w r j = subst (Judged w Read) (read-record w r j) j
 
 -- AN OFFER IS AN RTI
 
@@ -116,16 +118,25 @@ send-directed e w room e′ t q hd f g r j a = go (isAcceptance (deedOf (message
 
 -- A MESSAGE IS HEARD
 
+answerable : (m : Message) (v : ℕ) (t : List ℕ) → h.Answered m v t → Answerable m v
+answerable m v t a = go (a .value)
+  where
+    go : h.OneOf v → Answerable m v
+    go (inl p) = inl p
+    go (inr (inl p)) = inr (inr (inr (p, offers-rti m (a .offering p))))
+    go (inr (inr (inl p))) = inr (inl p)
+    go (inr (inr (inr p))) = inr (inr (inl p))
+
 pub hear-seen : (e : End) → SoundEnd e → (w : List ℕ) (r : Record) → Judged w Read r → isAnswer (r .kind) ≡ false → directed (e .head) (messageIn w) ≡ true → (room : ℕ) (e′ : End) (t : List ℕ) → receive room w e ≡ done e′ t → (v : ℕ) × Hears (messageIn w .number) (contentOf (messageIn w)) v (viewOf e) (viewOf e′) × (t ≡ answerText (messageIn w) v) × Answerable (messageIn w) v
 hear-seen e k w r j a d room e′ t q =
     let y = h.hear-seen (λ w r l f j. applied-formed w r l f j .0) room w e (sym (verdict-only w Read r j)) d (ap isAnswer (kind-is w r j) ∙ a) k (small w r j) e′ t q in
-    (y .0, y .1, y .2 .text, answerable (y .0) (y .2 .value) (y .2 .offering))
-  where
-    answerable : (v : ℕ) → h.OneOf v → (v ≡ 2 → isOffering (deedOf (messageIn w)) ≡ true) → Answerable (messageIn w) v
-    answerable v (inl p) o = inl p
-    answerable v (inr (inl p)) o = inr (inr (inr (p, offers-rti (messageIn w) (o p))))
-    answerable v (inr (inr (inl p))) o = inr (inl p)
-    answerable v (inr (inr (inr p))) o = inr (inr (inl p))
+    (y .0, y .1, y .2 .text, answerable (messageIn w) (y .0) t (y .2))
+
+-- one that may be heard is refused by 2 only, where less is lent than the longest text has
+pub hear-refused : (e : End) → SoundEnd e → (w : List ℕ) (r : Record) → Judged w Read r → isAnswer (r .kind) ≡ false → directed (e .head) (messageIn w) ≡ true → h.Heeded (messageIn w) e → (room : ℕ) (x : Refusal) → receive room w e ≡ refused x → (x ≡ number 2) × (room < 1077)
+hear-refused e k w r j a d m room x q =
+    let y = h.hear-open room w e (sym (verdict-only w Read r j)) d (ap isAnswer (kind-is w r j) ∙ a) (k .answers) (small w r j) m x q in
+    (y .number, omega (arith, y .longer, answer-short w (readRecord w) (judged-in w r j) (y .answer) (answerable (messageIn w) (y .answer) _ (y .answered))))
 
 -- AN ANSWER IS HEARD
 
@@ -161,9 +172,6 @@ answer-heard a b i w s v y hd p q =
           (referred-answer hd (messageIn t) v (x .kind) (pair-is (messageIn t .referenceFrom) (messageIn t .referenceTo) (hd .ours) (hd .partners) (x .referenceFrom ∙ s .from ∙ sym p) (x .referenceTo ∙ s .to ∙ sym q)) (x .reference ∙ sym (x .number)));
     }
   where
-    judged-in : (w : List ℕ) (r : Record) → Judged w Read r → Judged w Read (readRecord w)
-    judged-in w r j = subst (Judged w Read) (read-record w r j) j
-
     pair-is : (c d c′ d′ : List ℕ) → c ≡ c′ → d ≡ d′ → units c d c′ d′ ≡ true
     pair-is c d c′ d′ e f = both (same c c′) (same d d′) (same-is c c′ .no e) (same-is d d′ .no f)
 
@@ -171,7 +179,7 @@ answer-heard a b i w s v y hd p q =
     referred-answer hd m v e u n = ap (λ (k : Kind). referred k hd m) e ∙ go (eqb v 1) (eqb v 2)
       where
         ok : units (m .referenceFrom) (m .referenceTo) (hd .ours) (hd .partners) && eqb (m .reference) (m .number) ≡ true
-        ok = both (units (m .referenceFrom) (m .referenceTo) (hd .ours) (hd .partners)) (eqb (m .reference) (m .number)) u (eqb-yes (m .reference) (m .number) n)
+        ok = both (units (m .referenceFrom) (m .referenceTo) (hd .ours) (hd .partners)) (eqb (m .reference) (m .number)) u (eq-eqb (m .reference) (m .number) n)
 
         go : (x y : Bool) → referred (cond x Lam (cond y Rla Lrm)) hd m ≡ true
         go true y = ok

@@ -1,23 +1,21 @@
 -- EVERY CALL IS A TURN of the run that a world follows, or changes nothing.
 use mathlib.Core.Path.{_≡_, refl, sym, ap, _∙_, subst}
-use mathlib.Core.Logic.{_⊎_, inl, inr, _≢_}
-use mathlib.Core.Bool.{Bool, true, false, cond}
-use mathlib.Core.Option.{Option, none, some}
-use mathlib.Core.List.{List, [], _∷_}
-use Prim.Native.Nat.{ℕ, zero, suc, _+_, _-_, _%_, _≤_, _<_}
+use mathlib.Core.Logic.{inl, inr}
+use mathlib.Core.Bool.{false}
+use mathlib.Core.Option.{Option, some}
+use mathlib.Core.List.{List, _∷_}
+use Prim.Native.Nat.{ℕ, suc, _+_, _-_, _≤_, _<_}
 use native.Mathlib.Omega.{arith}
 use lib.ListN.{length}
 use Rattle.message.specs.declared.Record.{Record}
-use Rattle.message.specs.declared.Verdict.the-variants.{Read}
-use Rattle.message.specs.Reader.{verdict}
 use Rattle.head.specs.declared.Head.{Head}
 use Rattle.drafts.specs.Draft.{Drafted}
 use Rattle.places.specs.declared.Place.the-variants.{At}
 use Rattle.places.specs.Places.{get}
 use Rattle.unanswered.specs.Waiting.{Waiting, isAnswer}
-use Rattle.memory.specs.End.{End, Memory, Formed, waitingIn, endOf, memoryOf}
+use Rattle.memory.specs.End.{End, Memory, waitingIn, endOf, memoryOf}
 use Rattle.memory.specs.Held.{memory-back}
-use Rattle.rules.specs.Replies.{Refusal, Reply, refused, done}
+use Rattle.rules.specs.Replies.{Refusal, refused, done}
 use Rattle.rules.specs.Reads.{messageIn}
 use Rattle.rules.specs.Receiving.{directed, waitingAt, receive}
 use Rattle.rules.specs.Sending.{send, resend}
@@ -26,15 +24,15 @@ use Rattle.calls.specs.declared.Outcome.{Outcome}
 use Rattle.calls.specs.Calls.{Called, Comes}
 use Rattle.link.specs.Sends.{Sent}
 use Rattle.kinds.specs.Tools.{same?, upd, some-inj}
-use Rattle.kinds.specs.Kinds.{Content, contentOf, answerKind}
+use Rattle.kinds.specs.Kinds.{Content, contentOf}
 use Rattle.kinds.specs.Views.{View, Sends, Learns, Hears}
-use Rattle.kinds.specs.Ends.{viewOf, SoundEnd, waitsIn}
+use Rattle.kinds.specs.Ends.{viewOf, waitsIn}
 use Rattle.exchange.specs.Runs as run
-use Rattle.exchange.specs.Runs.{Script, num, Mem, become, grow, tell}
+use Rattle.exchange.specs.Runs.{Script, num, become, grow, tell}
 use Rattle.pair.specs.World.{Copy, Among, here, there, Side, count, InTime, latest, number, given, Asked, text, answer, unwritten, logged, copied, changed, sent, resent, answered}
 use Rattle.pair.specs.Texts.{Says, draft-says, send-adds, receive-holds}
-use Rattle.pair.specs.Came.{Refuses, Gives, came, came-refused}
-use Rattle.pair.specs.Follows.{script, textAt, text-newest, text-older, Spells, Told, Replies, Kept, endIn, sent-none, resent-none, changed-none, answered-none, next-formed, next-end, mem-told, mem-new}
+use Rattle.pair.specs.Came.{Gives, came, came-refused}
+use Rattle.pair.specs.Follows.{script, text-newest, Spells, Told, Replies, Kept, endIn, sent-none, resent-none, changed-none, answered-none, next-formed, next-end, mem-told, mem-new}
 use Rattle.pair.specs.Parts.{send-sound, send-directed, hear-seen, learn-seen, Heard, answer-heard, waits-held, latest-at}
 use Rattle.answering.specs.Answered.{Answerable}
 use Rattle.keeping.specs.Memory.{sound-of}

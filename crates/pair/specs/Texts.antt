@@ -32,7 +32,7 @@ use Rattle.memory.specs.End.{End}
 use Rattle.rules.specs.Replies.{Reply, refused, done, number}
 use Rattle.rules.specs.Reads.{messageIn, read-message}
 use Rattle.rules.specs.Answers.{answerTo, proper, isAcceptance, isOffering}
-use Rattle.rules.specs.Receiving.{directed, waitingAt, settled, settle, settleHeld, settleAt, hearAnswer, retires, retireHeld, retireAt, retired, about, handled, giving, answering, hearFirst, raised, hearAgain, hearOld, hearMessage, hear, receiveBy, receive}
+use Rattle.rules.specs.Receiving.{directed, waitingAt, settled, settle, settleHeld, settleAt, hearAnswer, retires, retireHeld, retireAt, retired, about, handled, giving, hearFirst, raised, hearAgain, hearOld, hearMessage, hear, receiveBy, receive}
 use Rattle.rules.specs.Sending.{anyWaiting, tooOld, naming, mayBeSent, fills, sending, sendAt, send}
 use Rattle.kinds.specs.Tools.{none-some, some-inj}
 

@@ -12,7 +12,7 @@ use lib.ListN.{length, getD, take, drop, List·getD-eq-default}
 use lib.ListN as lists
 use lib.Seq.{set-split, getD-set-same, getD-set-other}
 use lib.Dec.{eqb, ltb, leb}
-use borrow.Author.Tests.{eqb-true, ltb-true, ltb-false, not-true}
+use borrow.Author.Tests.{eqb-true, ltb-true, ltb-false, leb-false, not-true, eq-eqb}
 use Rattle.scan.specs.Bools.{known, and-l, both, or-split}
 use Rattle.message.specs.declared.Kind.{Kind}
 use Rattle.message.specs.declared.Kind.the-variants.{Rla}
@@ -31,7 +31,7 @@ use Rattle.flights.specs.Flight.{Flight}
 use Rattle.flights.specs.Holding.{FlightsFormed}
 use Rattle.unanswered.specs.Waiting.{Waiting, Proper, isAnswer}
 use Rattle.answers.specs.Given as g
-use Rattle.answers.specs.Given.{isValue, forgotten}
+use Rattle.answers.specs.Given.{isValue, AnswersFormed, forgotten}
 use Rattle.answers.specs.Forgetting.{forgotten-long, forgotten-at}
 use Rattle.deeds.specs.declared.Deed.{Deed}
 use Rattle.deeds.specs.declared.Deed.the-variants.{Files, Enters, Amends, Estimates, Cancels, Offers, Retracts, Accepts, Nothing}
@@ -51,7 +51,7 @@ use Rattle.rules.specs.Crossing.{retires-is, retired-sent}
 use Rattle.rules.specs.Receiving as r
 use Rattle.rules.specs.Receiving.{directed, waitingAt, settledSent, settled, settle, settleHeld, settleAt, hearAnswer, retireHeld, retireAt, retired, about, given, handled, answering, hearFirst, hearAgain, hearOld, hearMessage, hear, receiveBy, receive}
 use Rattle.rules.specs.Sending.{countWaiting, making}
-use Rattle.kinds.specs.Tools.{upd, same?, upd-same, upd-other, true-false, none-some, some-inj, eqb-yes}
+use Rattle.kinds.specs.Tools.{upd, same?, upd-same, upd-other, true-false, none-some, some-inj}
 use Rattle.kinds.specs.Kinds.{Content, own, contentOf, messageOf, close, retires, againTo}
 use Rattle.kinds.specs.Views.{View, Applied, Retires, TakesOwn, TakesNear, Takes, raised, Hears, first, late, again}
 use Rattle.kinds.specs.Ends.{WaitingFormed, SoundEnd, byKey, waitsIn, keptIn, viewOf}
@@ -182,7 +182,7 @@ number-in ours partners q p = ap (λ (m : Message). m .number) (sym (read-messag
 
 named-by : (m p : Message) → r.retires m p ≡ true → m .reference ≡ p .number → retires m p ≡ true
 unfolding retires
-named-by m p h n = both (r.retires m p) (eqb (m .reference) (p .number)) h (eqb-yes (m .reference) (p .number) n)
+named-by m p h n = both (r.retires m p) (eqb (m .reference) (p .number)) h (eq-eqb (m .reference) (p .number) n)
 
 named-not : (m p : Message) → r.retires m p ≡ false → retires m p ≡ true → ⊥
 unfolding retires
@@ -286,9 +286,9 @@ giving-done : (b : Bool) (e e′ : End) (s t : List ℕ) → cond b (done e s) (
 giving-done true e e′ s t h = (done-end h, sym (done-text h))
 giving-done false e e′ s t h = absurd (refused-done h)
 
-giving-refused : (b : Bool) (e : End) (t : List ℕ) (y : Refusal) → cond b (done e t) (refused (number 2)) ≡ refused y → y ≡ number 2
+giving-refused : (b : Bool) (e : End) (t : List ℕ) (y : Refusal) → cond b (done e t) (refused (number 2)) ≡ refused y → (y ≡ number 2) × (b ≡ false)
 giving-refused true e t y h = absurd (refused-done (sym h))
-giving-refused false e t y h = cc
+giving-refused false e t y h = (cc, refl)
 
 module _ (m : Message) (e : End) (whole : length (e .answers) ≡ 1000) (n : m .number ≤ 999) where
   takes-own : isAcceptance (deedOf m) ≡ false → FlightsFormed (e .received) → TakesOwn (m .number) m (answerAt false m e) (viewOf e) (viewOf (handledAt false m e))
@@ -368,6 +368,11 @@ offering-two : (b o : Bool) → b && not o ≡ false → b ≡ true → o ≡ tr
 offering-two b true h e = refl
 offering-two b false h e = absurd (true-false (both b true e refl) h)
 
+-- the answer v that is kept for a number is given again to m
+again-answered : (m : Message) (v : ℕ) (t : List ℕ) → isValue v ≡ true → eqb v 0 ≡ false → isFour m v ≡ false → t ≡ answerText m v → Answered m v t
+again-answered m v t o z b h =
+    record { text = h; value = value-one v o z; offering = λ w. offering-two (eqb v 2) (isOffering (deedOf m)) b (eq-eqb v 2 w) }
+
 -- for some answer x, m is taken, or heard, and answered
 abbrev Taken : Message → End → End → List ℕ → Type 0
 Taken m e e′ t = (x : ℕ) × Takes (m .number) (contentOf m) x (viewOf e) (viewOf e′) × Answered m x t
@@ -418,7 +423,7 @@ module _ (applied-formed : AppliedFormed) where
           (λ b. absurd (refused-done (sym (again-four room m v e b) ∙ sym (hear-answered room m v e z) ∙ h)))
           (λ b.
           let d = giving-done (leb (length (answerText m v)) room) e e′ (answerText m v) t (sym (again-given room m v e b) ∙ sym (hear-answered room m v e z) ∙ h) in
-          (v, again k (kept-value (e .answers) (m .number) v g ∙ kept-as v z) (ap viewOf (sym (d .0))), record { text = d .1; value = value-one v o z; offering = λ w. offering-two (eqb v 2) (isOffering (deedOf m)) b (eqb-yes v 2 w) }))
+          (v, again k (kept-value (e .answers) (m .number) v g ∙ kept-as v z) (ap viewOf (sym (d .0))), again-answered m v t o z b (d .1)))
           (known (isFour m v))
 
   message-seen : (room : ℕ) (m : Message) (e e′ : End) (t : List ℕ) → SoundEnd e → m .number ≤ 999 → (y : Standing) → standing (e .head .highest) (m .number) ≡ y → hearMessage y room m e ≡ done e′ t → HeardAs m e e′ t
@@ -437,13 +442,24 @@ module _ (applied-formed : AppliedFormed) where
 
 -- IT IS REFUSED FOR WANT OF ROOM ONLY
 
-answering-refused : (room : ℕ) (m : Message) (v : ℕ) (e : End) (y : Refusal) → answering room m v e ≡ refused y → y ≡ number 2
-answering-refused room m v e y h = giving-refused (leb (length (answerText m v)) room) e (answerText m v) y h
+-- y is 2: the answer that m gets is longer than the room
+pub record Wants (room : ℕ) (m : Message) (y : Refusal) : Type 0 where
+  pub number : y ≡ number 2
+  pub answer : ℕ
+  pub answered : Answered m answer (answerText m answer)
+  pub longer : room < length (answerText m answer)
 
-first-refused : (room : ℕ) (m : Message) (e : End) (y : Refusal) → hearFirst room m e ≡ refused y → y ≡ number 2
+answering-refused : (room : ℕ) (m : Message) (v : ℕ) (e : End) (y : Refusal) → Answered m v (answerText m v) → answering room m v e ≡ refused y → Wants room m y
+answering-refused room m v e y a h =
+    let g = giving-refused (leb (length (answerText m v)) room) e (answerText m v) y h in
+    record { number = g .0; answer = v; answered = a; longer = leb-false (length (answerText m v)) room (g .1) }
+
+first-refused : (room : ℕ) (m : Message) (e : End) (y : Refusal) → hearFirst room m e ≡ refused y → Wants room m y
 first-refused room m e y h =
     let b = isAcceptance (deedOf m) in
-    answering-refused room m (answerAt b m (retired m e)) (handledAt b m (retired m e)) y (sym (first-by room m e b refl) ∙ h)
+    let d = retired m e in
+    let a = first-answered m (decision m (cond b (d .sent) (d .received))) (answerText m (answerAt b m d)) refl in
+    answering-refused room m (answerAt b m d) (handledAt b m d) y a (sym (first-by room m e b refl) ∙ h)
 
 -- the number was not answered, or its answer may be given again
 abbrev pub Repeatable : Message → End → Type 0
@@ -453,31 +469,32 @@ Repeatable m e = (keptIn (e .answers) (m .number) ≡ none) ⊎ ((x : ℕ) × (k
 abbrev pub Heeded : Message → End → Type 0
 Heeded m e = (standing (e .head .highest) (m .number) ≡ New) ⊎ ((standing (e .head .highest) (m .number) ≡ Old) × Repeatable m e)
 
-new-refused : (room : ℕ) (m : Message) (e : End) (y : Refusal) → hearMessage New room m e ≡ refused y → y ≡ number 2
+new-refused : (room : ℕ) (m : Message) (e : End) (y : Refusal) → hearMessage New room m e ≡ refused y → Wants room m y
 unfolding hearMessage
 new-refused room m e y h = first-refused room m (r.raised (m .number) e) y h
 
-old-refused : (room : ℕ) (m : Message) (e : End) (y : Refusal) → Repeatable m e → hearMessage Old room m e ≡ refused y → y ≡ number 2
+old-refused : (room : ℕ) (m : Message) (e : End) (y : Refusal) → AnswersFormed (e .answers) → m .number ≤ 999 → Repeatable m e → hearMessage Old room m e ≡ refused y → Wants room m y
 unfolding hearMessage
-old-refused room m e y (inl k) h =
+old-refused room m e y f n (inl k) h =
     let v : ℕ = getD (e .answers) (m .number) 0 in
     let z : eqb v 0 ≡ true = kept-none v (eqb v 0) refl (sym (kept-value (e .answers) (m .number) v refl) ∙ k) in
     first-refused room m e y (sym (hear-unanswered room m v e z) ∙ h)
-old-refused room m e y (inr k) h =
+old-refused room m e y f n (inr k) h =
     let v : ℕ = getD (e .answers) (m .number) 0 in
     let z = kept-some v (k .0) (eqb v 0) refl (sym (kept-value (e .answers) (m .number) v refl) ∙ k .1) in
     let b : isFour m v ≡ false = ap (isFour m) (z .1) ∙ again-right m (k .0) (k .2) in
-    answering-refused room m v e y (sym (hear-answered room m v e (z .0) ∙ again-given room m v e b) ∙ h)
+    let a = again-answered m v (answerText m v) (f .values (m .number) (omega arith)) (z .0) b refl in
+    answering-refused room m v e y a (sym (hear-answered room m v e (z .0) ∙ again-given room m v e b) ∙ h)
 
-pub hear-open : (room : ℕ) (w : List ℕ) (e : End) → verdict w ≡ Read → directed (e .head) (messageIn w) ≡ true → isAnswer (messageIn w .kind) ≡ false → Heeded (messageIn w) e → (y : Refusal) → receive room w e ≡ refused y → y ≡ number 2
-hear-open room w e v d a k y h = go k
+pub hear-open : (room : ℕ) (w : List ℕ) (e : End) → verdict w ≡ Read → directed (e .head) (messageIn w) ≡ true → isAnswer (messageIn w .kind) ≡ false → AnswersFormed (e .answers) → messageIn w .number ≤ 999 → Heeded (messageIn w) e → (y : Refusal) → receive room w e ≡ refused y → Wants room (messageIn w) y
+hear-open room w e v d a f n k y h = go k
   where
     by : (s : Standing) → standing (e .head .highest) (messageIn w .number) ≡ s → hearMessage s room (messageIn w) e ≡ refused y
     by s p = ap (λ (z : Standing). hearMessage z room (messageIn w) e) (sym p) ∙ sym (message-heard room w e v d a) ∙ h
 
-    go : Heeded (messageIn w) e → y ≡ number 2
+    go : Heeded (messageIn w) e → Wants room (messageIn w) y
     go (inl p) = new-refused room (messageIn w) e y (by New p)
-    go (inr p) = old-refused room (messageIn w) e y (p .1) (by Old (p .0))
+    go (inr p) = old-refused room (messageIn w) e y f n (p .1) (by Old (p .0))
 
 -- A REFUSAL HAS A NUMBER from 1 on
 

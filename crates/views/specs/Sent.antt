@@ -7,7 +7,7 @@ use Prim.Native.Nat.{ℕ, zero, suc, _+_, _%_, _≤_, _<_}
 use native.Mathlib.Omega.{arith}
 use lib.ListN.{length, getD, replicate}
 use lib.Dec.{eqb, leb}
-use borrow.Author.Tests.{leb-false}
+use borrow.Author.Tests.{leb-false, eq-eqb}
 use Rattle.scan.specs.Bools.{and-l, and-r, both, or-l, or-r, neither}
 use Rattle.message.specs.declared.Kind.{Kind}
 use Rattle.message.specs.declared.Kind.the-variants.{None, Fpl, Cpl, Est, Chg, Cnl, Rti, Rta, Rla, Lam, Lrm}
@@ -28,7 +28,7 @@ use Rattle.rules.specs.Reads.{messageIn}
 use Rattle.rules.specs.Answers.{isAcceptance}
 use Rattle.rules.specs.Receiving.{waitingAt, giving, units, referred, directed}
 use Rattle.rules.specs.Sending.{anyWaiting, countWaiting, tooOld, oneOf, sameSide, namesOne, naming, mayBeSent, making, fills, sending, sendAt, send, resendHeld, resendAt, resend, fresh}
-use Rattle.kinds.specs.Tools.{true-false, eqb-yes}
+use Rattle.kinds.specs.Tools.{true-false}
 use Rattle.kinds.specs.Kinds.{Content, own, near, contentOf, messageOf, clash}
 use Rattle.kinds.specs.Views.{gap, Opening, Sends, Fresh}
 use Rattle.kinds.specs.Ends.{SoundEnd, byKey, waitsIn, keptIn, viewOf}
@@ -100,7 +100,7 @@ unfolding tooOld
 young-gap n q e =
     let d : ℕ = gap n (q .number) in
     let o = neither (eqb d 0) (leb 400 d) e in
-    (leb-false 400 d (o .1), (λ z. true-false (eqb-yes d 0 z) (o .0)))
+    (leb-false 400 d (o .1), (λ z. true-false (eq-eqb d 0 z) (o .0)))
 
 gap-self : (n : ℕ) → gap n n ≡ 0
 gap-self n = omega arith

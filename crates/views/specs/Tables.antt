@@ -8,6 +8,7 @@ use Prim.Native.Nat.{ℕ, zero, suc, _+_, _≤_, _<_}
 use native.Mathlib.Omega.{arith}
 use lib.ListN.{length}
 use lib.Dec.{ltb}
+use borrow.Author.Tests.{ltb-true, ltb-false}
 use Rattle.message.specs.declared.Kind.{Kind}
 use Rattle.message.specs.declared.Kind.the-variants.{None, Fpl, Cpl, Est, Chg, Cnl, Rti, Rta, Rla, Lam, Lrm}
 use Rattle.message.specs.Record.{isChg}
@@ -26,7 +27,7 @@ use Rattle.deeds.specs.Deeds.{Key, inOrder, turned, rtaDeed, deedBy, deedOf, or
 use Rattle.deeds.specs.Applying.{whereIs, lowestFree, heldAt, flightUnder, other, orFree, allowed, decidedAt, decision, after, applied}
 use Rattle.rules.specs.Answers.{goodAnswer, answerTo, isOffering, isAcceptance, proper}
 use Rattle.rules.specs.Laws.{accepts}
-use Rattle.kinds.specs.Tools.{guard, under, same?, true-false, none-some, some-inj, and-yes, ltb-yes, ltb-no, key-eq, key-yes, key-no, key?, under-same, under-other}
+use Rattle.kinds.specs.Tools.{guard, under, same?, true-false, none-some, some-inj, and-yes, key-eq, key-yes, key-no, key?, under-same, under-other}
 use Rattle.kinds.specs.Kinds as kind
 use Rattle.kinds.specs.Kinds.{own, near, messageOf, orderly, effect, close, isYes, answerKind, properTo, Table, eff, put, grown}
 use Rattle.kinds.specs.Views.{Applied, fails, full, stored}
@@ -229,9 +230,9 @@ module _ (l : Places Flight) (f : FlightsFormed l) where
   single i j x y p q e = go (ltb i j) (ltb j i) refl refl
     where
       go : (a b : Bool) → ltb i j ≡ a → ltb j i ≡ b → i ≡ j
-      go true b s t = absurd (apart i j x y p q e (ltb-yes i j s))
-      go false true s t = absurd (apart j i y x q p (sym e) (ltb-yes j i t))
-      go false false s t = omega (arith, ltb-no i j s, ltb-no j i t)
+      go true b s t = absurd (apart i j x y p q e (ltb-true i j s))
+      go false true s t = absurd (apart j i y x q p (sym e) (ltb-true j i t))
+      go false false s t = omega (arith, ltb-false i j s, ltb-false j i t)
 
   orderly-at : (i : ℕ) (x : Flight) → get i l ≡ some x → orderly (some x) ≡ true
   unfolding orderly

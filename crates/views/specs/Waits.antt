@@ -7,6 +7,7 @@ use mathlib.Core.List.{List, [], _∷_}
 use Prim.Native.Nat.{ℕ, zero, suc, _+_, _<_}
 use native.Mathlib.Omega.{arith}
 use lib.ListN.{length}
+use borrow.Author.Tests.{eq-eqb, eqb-true, ne-eqb}
 use Rattle.scan.specs.Bools.{neither}
 use Rattle.places.specs.declared.Place.{Place}
 use Rattle.places.specs.declared.Place.the-variants.{At, Nowhere}
@@ -22,7 +23,7 @@ use Rattle.rules.specs.Answers.{isAcceptance}
 use Rattle.rules.specs.Laws.{accepts}
 use Rattle.rules.specs.Receiving.{waitingAt}
 use Rattle.rules.specs.Sending.{anyWaiting, countWaiting}
-use Rattle.kinds.specs.Tools.{upd, upd-same, upd-other, same?, eqb-yes, eqb-no, eqb-eq, true-false, none-some, some-inj}
+use Rattle.kinds.specs.Tools.{upd, upd-same, upd-other, same?, true-false, none-some, some-inj}
 use Rattle.kinds.specs.Kinds.{Content, own, near, contentOf, takes}
 use Rattle.kinds.specs.Ends.{WaitingFormed, contentIn, waitsIn}
 
@@ -31,15 +32,15 @@ use Rattle.kinds.specs.Ends.{WaitingFormed, contentIn, waitsIn}
 numbered-is : (n : ℕ) (o : Option Waiting) → numbered n o ≡ true → (q : Waiting) × (o ≡ some q) × (q .number ≡ n)
 unfolding numbered
 numbered-is n none e = absurd (true-false e refl)
-numbered-is n (some q) e = (q, refl, eqb-eq (q .number) n e)
+numbered-is n (some q) e = (q, refl, eqb-true (q .number) n e)
 
 pub number-at : (n : ℕ) (o : Option Waiting) (q : Waiting) → o ≡ some q → q .number ≡ n → numbered n o ≡ true
 unfolding numbered
-number-at n o q p e = ap (numbered n) p ∙ eqb-yes (q .number) n e
+number-at n o q p e = ap (numbered n) p ∙ eq-eqb (q .number) n e
 
 number-not : (n : ℕ) (q : Waiting) → n ≢ q .number → numbered n (some q) ≡ false
 unfolding numbered
-number-not n q d = eqb-no (q .number) n (λ e. d (sym e))
+number-not n q d = ne-eqb (q .number) n (λ e. d (sym e))
 
 free-numbered : (n : ℕ) (o : Option Waiting) → o ≡ none → numbered n o ≡ false
 unfolding numbered
