@@ -1,0 +1,43 @@
+/* The functions of one implementation, so that programs can drive any.  The names are those of link.h behind a prefix. */
+#ifndef ENDS_H
+#define ENDS_H
+
+#include "link.h"
+
+typedef int read_function(const uint8_t *text, size_t, uint8_t *record, size_t, uint64_t *place, uint64_t *hyphens);
+typedef int write_function(const uint8_t *bytes, size_t, const uint8_t *record, size_t, uint8_t *out, size_t,
+                           uint64_t *length);
+typedef int set_up_function(const uint8_t *ours, size_t, const uint8_t *partners, size_t, uint8_t *head, size_t, uint8_t *sent,
+                            size_t, uint8_t *received, size_t, uint8_t *unanswered, size_t, uint8_t *answers, size_t);
+typedef int send_function(const uint8_t *bytes, size_t, const uint8_t *record, size_t, uint8_t *head, size_t, uint8_t *sent,
+                          size_t, uint8_t *received, size_t, uint8_t *unanswered, size_t, uint8_t *answers, size_t,
+                          uint8_t *out, size_t, uint64_t *length);
+typedef int receive_function(const uint8_t *text, size_t, uint8_t *head, size_t, uint8_t *sent, size_t, uint8_t *received,
+                             size_t, uint8_t *unanswered, size_t, uint8_t *answers, size_t, uint8_t *out, size_t,
+                             uint64_t *length, uint64_t *place, uint64_t *hyphens);
+typedef int resend_function(uint64_t number, uint8_t *head, size_t, uint8_t *sent, size_t, uint8_t *received, size_t,
+                            uint8_t *unanswered, size_t, uint8_t *answers, size_t, uint8_t *out, size_t, uint64_t *length);
+
+struct implementation {
+    const char *name;
+    read_function *read;
+    write_function *write;
+    set_up_function *set_up;
+    send_function *send;
+    receive_function *receive;
+    resend_function *resend;
+};
+
+#define IMPLEMENTATION(prefix) IMPLEMENTATION_NAMED(prefix)
+#define IMPLEMENTATION_NAMED(prefix) \
+    { #prefix, prefix##_read, prefix##_write, prefix##_set_up, prefix##_send, prefix##_receive, prefix##_resend }
+
+/* The implementation that is compared. */
+read_function pamiqsun_read;
+write_function pamiqsun_write;
+set_up_function pamiqsun_set_up;
+send_function pamiqsun_send;
+receive_function pamiqsun_receive;
+resend_function pamiqsun_resend;
+
+#endif
