@@ -103,15 +103,22 @@ static const char *some_field16(void)
     return one_of(rests, 5);
 }
 
+/* Each draw stands in a statement of its own, so that a seed means the same run with any compiler. */
 void draft_plan(char *to, const struct named *n)
 {
-    if (once_in(2))
-        sprintf(to, "(FPL" DRAFT_NUMBER "-%s%s-I%s-2B738/M-SDE3/LB1-%s%04u-%s-%s%s-%s)", n->aircraft, some_code(),
-                once_in(2) ? "S" : "", n->departure, chance(60), some_field15(), n->destination, some_field16(),
-                some_field18());
-    else
-        sprintf(to, "(CPL" DRAFT_NUMBER "-%s%s-VN-C172/L-S/C-%s-%s-%s-%s-%s)", n->aircraft, some_code(), n->departure,
-                some_field14(), some_field15(), n->destination, some_field18());
+    int filed = once_in(2);
+    const char *code = some_code(), *field15 = some_field15(), *field18 = some_field18();
+    if (filed) {
+        const char *flight = once_in(2) ? "S" : "";
+        unsigned time = chance(60);
+        const char *rest = some_field16();
+        sprintf(to, "(FPL" DRAFT_NUMBER "-%s%s-I%s-2B738/M-SDE3/LB1-%s%04u-%s-%s%s-%s)", n->aircraft, code, flight, n->departure,
+                time, field15, n->destination, rest, field18);
+    } else {
+        const char *field14 = some_field14();
+        sprintf(to, "(CPL" DRAFT_NUMBER "-%s%s-VN-C172/L-S/C-%s-%s-%s-%s-%s)", n->aircraft, code, n->departure, field14, field15,
+                n->destination, field18);
+    }
 }
 
 static void draft_change(char *to, const char *reference, const struct named *n)
@@ -119,21 +126,29 @@ static void draft_change(char *to, const char *reference, const struct named *n)
     to += sprintf(to, "(CHG" DRAFT_NUMBER "%s-%s-%s-%s%s", reference, n->aircraft, n->departure, n->destination,
                   once_in(4) ? "-RMK/OWN" : "");
     if (once_in(3)) {
-        sprintf(to, "-07/%s%s)", once_in(2) ? n->aircraft : some_aircraft(), some_code());
+        const char *aircraft = once_in(2) ? n->aircraft : some_aircraft(), *code = some_code();
+        sprintf(to, "-07/%s%s)", aircraft, code);
         return;
     }
     if (once_in(3)) to += sprintf(to, "-08/%s", once_in(2) ? "V" : "YG");
     if (once_in(6)) to += sprintf(to, "-09/%uC172/L", 2 + chance(98));
     else if (once_in(6)) to += sprintf(to, "-09/B7%u8/H", chance(8));
     if (once_in(3)) to += sprintf(to, "-10/S/C%u", chance(3));
-    if (once_in(3)) to += sprintf(to, "-13/%s%04u", once_in(2) ? "KPDX" : "KSEA", chance(60));
+    if (once_in(3)) {
+        const char *departure = once_in(2) ? "KPDX" : "KSEA";
+        to += sprintf(to, "-13/%s%04u", departure, chance(60));
+    }
     if (once_in(3)) to += sprintf(to, "-15/%s", some_field15());
-    if (once_in(3)) to += sprintf(to, "-16/%s%s", once_in(2) ? "CYVR" : "CYOW", some_field16());
+    if (once_in(3)) {
+        const char *destination = once_in(2) ? "CYVR" : "CYOW";
+        to += sprintf(to, "-16/%s%s", destination, some_field16());
+    }
     sprintf(to, "-18/%s)", some_field18());
 }
 
 void draft_about(char *to, unsigned kind, const char *reference, const struct named *n, const char *code)
 {
+    const char *time;
     switch (kind) {
     case CHG:
         draft_change(to, reference, n);
@@ -143,8 +158,9 @@ void draft_about(char *to, unsigned kind, const char *reference, const struct na
                 n->destination);
         break;
     case CNL:
-        sprintf(to, "(CNL" DRAFT_NUMBER "%s-%s-%s%s-%s-%s)", reference, n->aircraft, n->departure, once_in(2) ? "1200" : "",
-                n->destination, some_field18());
+        time = once_in(2) ? "1200" : "";
+        sprintf(to, "(CNL" DRAFT_NUMBER "%s-%s-%s%s-%s-%s)", reference, n->aircraft, n->departure, time, n->destination,
+                some_field18());
         break;
     case RTI:
         sprintf(to, "(RTI" DRAFT_NUMBER "%s-%s%s-%s-%s-SECTOR %u-TRACK)", reference, n->aircraft, code, n->departure,

@@ -348,7 +348,10 @@ static void send(struct station *s, const char *draft, int broken)
     struct message *m;
     int number;
     must(ref_read((const uint8_t *)draft, strlen(draft), record, sizeof record, &place, &hyphens) == 0, "a draft is not read");
-    if (broken) record[2 * chance(REF_NUMBERS) + 1] ^= (uint8_t)(1 + chance(255));
+    if (broken) {
+        unsigned which = chance(REF_NUMBERS);
+        record[2 * which + 1] ^= (uint8_t)(1 + chance(255));
+    }
     keep(s);
     number = s->f->send((const uint8_t *)draft, strlen(draft), record, sizeof record, LENT(s), out, room, &length);
     if (number == 0) {
@@ -487,8 +490,10 @@ static void draft_anything(struct station *s, char *to)
     unsigned kind = EST + chance(5), number = flight[0] ? number_in(flight + (once_in(2) ? 2 : 4)) : chance(1000);
     if (once_in(4))
         draft_plan(to, &n);
-    else
-        draft_about(to, kind, once_in(8) ? "CCCC/DDDD001" : reference_to(once_in(3) ? other(s) : s, number), &n, some_code());
+    else {
+        const char *reference = once_in(8) ? "CCCC/DDDD001" : reference_to(once_in(3) ? other(s) : s, number);
+        draft_about(to, kind, reference, &n, some_code());
+    }
 }
 
 /* Accepts a flight that the partner offers, if there is one. */
