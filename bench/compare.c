@@ -1,4 +1,4 @@
-/* Compares two implementations of reader, writer and link: A is ref (link.c), B is pamiqsun.
+/* Compares two implementations of reader, writer and link: A is ref (link.c), B is proved.
 
        compare [SEED [TEXTS [CALLS]]]
 
@@ -17,7 +17,7 @@
 #include "texts.h"
 
 enum { A, B };
-static const struct implementation implementations[2] = { IMPLEMENTATION(ref), IMPLEMENTATION(pamiqsun) };
+static const struct implementation implementations[2] = { IMPLEMENTATION(ref), IMPLEMENTATION(proved) };
 
 /* ---------------------------------------------------------------- lent buffers */
 

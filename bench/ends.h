@@ -33,11 +33,11 @@ struct implementation {
     { #prefix, prefix##_read, prefix##_write, prefix##_set_up, prefix##_send, prefix##_receive, prefix##_resend }
 
 /* The implementation that is compared. */
-read_function pamiqsun_read;
-write_function pamiqsun_write;
-set_up_function pamiqsun_set_up;
-send_function pamiqsun_send;
-receive_function pamiqsun_receive;
-resend_function pamiqsun_resend;
+read_function proved_read;
+write_function proved_write;
+set_up_function proved_set_up;
+send_function proved_send;
+receive_function proved_receive;
+resend_function proved_resend;
 
 #endif

@@ -10,7 +10,14 @@
 #include <stdlib.h>
 #include <string.h>
 
-#include "link.h"
+#include "ends.h"
+
+/* END chooses whose functions answer: ref, or with proved.c and the library proved. */
+#ifndef END
+#define END ref
+#endif
+static const struct implementation end_in_use = IMPLEMENTATION(END);
+
 
 enum { LONGEST_LINE = 4096, ROOM = 2000 };
 
@@ -50,7 +57,7 @@ static void set_up(struct station *s, const uint8_t *rest, size_t n, size_t shor
 {
     const uint8_t *blank = memchr(rest, ' ', n);
     size_t first = blank ? (size_t)(blank - rest) : n, second = blank ? n - first - 1 : 0;
-    say(s, ref_set_up(rest, first, blank ? blank + 1 : rest, second, MEMORY(s, short_by)), 0);
+    say(s, end_in_use.set_up(rest, first, blank ? blank + 1 : rest, second, MEMORY(s, short_by)), 0);
 }
 
 /* The content of a text that is not read is an empty record. */
@@ -59,15 +66,15 @@ static void send(struct station *s, const uint8_t *text, size_t n, size_t short_
     uint8_t record[REF_RECORD] = { 0 };
     uint64_t place, hyphens, length;
     int number;
-    ref_read(text, n, record, sizeof record, &place, &hyphens);
-    number = ref_send(text, n, record, sizeof record, MEMORY(s, short_by), s->out, s->room, &length);
+    end_in_use.read(text, n, record, sizeof record, &place, &hyphens);
+    number = end_in_use.send(text, n, record, sizeof record, MEMORY(s, short_by), s->out, s->room, &length);
     say(s, number, length);
 }
 
 static void receive(struct station *s, const uint8_t *text, size_t n, size_t short_by)
 {
     uint64_t length, place, hyphens;
-    int number = ref_receive(text, n, MEMORY(s, short_by), s->out, s->room, &length, &place, &hyphens);
+    int number = end_in_use.receive(text, n, MEMORY(s, short_by), s->out, s->room, &length, &place, &hyphens);
     if (number == REF_NOT_READ)
         printf("%c 1 %lu %lu\n", s->name, (unsigned long)place, (unsigned long)hyphens);
     else
@@ -77,7 +84,7 @@ static void receive(struct station *s, const uint8_t *text, size_t n, size_t sho
 static void resend(struct station *s, const char *rest, size_t short_by)
 {
     uint64_t length;
-    int number = ref_resend(strtoul(rest, NULL, 10), MEMORY(s, short_by), s->out, s->room, &length);
+    int number = end_in_use.resend(strtoul(rest, NULL, 10), MEMORY(s, short_by), s->out, s->room, &length);
     say(s, number, length);
 }
 

@@ -2,6 +2,9 @@
 """The memory of one full link, and changes of it.
 
     memory.py link SEED       writes 70,644 bytes: head, flights sent, flights received, unanswered, answers
+    memory.py calls SEED      the same with one unanswered message fewer, and one that its answer applies to a flight
+    memory.py texts SEED      prints what the calls on that are given: a draft, one of an FPL, a message that comes for the
+                              first time, one that was answered, an answer, and a number to resend
     memory.py changes SEED N  prints N changes of one byte, then as many of a field, a place or a size, one to a line
 
 A change is words OFFSET:HEX, bytes to be put there, and PART=SIZE, one of the five taken with another size.  The same
@@ -87,6 +90,37 @@ class Flights(Writer):
         for n in range(378, 778):
             answers[n] = self.c.among([1, 1, 1, 1, 2, 57, 62])
         return head + self.table() + self.table() + waiting + bytes(answers)
+
+
+class Calls:
+    """A CHG about a filed flight of a full table, with new fields 15 and 18, and an answer to an EST about another."""
+
+    def __init__(self, chance):
+        self.writer = Flights(chance)
+        self.base = self.writer.link()
+
+    def about(self, table, i):
+        at = STARTS[table] + i * FLIGHT
+        text = {n: self.base[at + a:at + a + w].decode("ascii").rstrip() for n, (a, w) in FIELDS.items() if w >= 4 and n != "rest"}
+        return int.from_bytes(self.base[at + 2:at + 4], "big"), [text["aircraft"], text["departure"], text["destination"]]
+
+    def change(self, table, i, units, number):
+        first, key = self.about(table, i)
+        fields = key + ["15/" + self.writer.f15(), "18/RMK/" + self.writer.words(90)]
+        return "(CHG%s%03d%s%03d" % (units, number, units, first) + "".join("-" + f for f in fields) + ")"
+
+    def memory(self):
+        first, key = self.about(1, 14)
+        text = "(ESTKZMP/CZWG990KZMP/CZWG%03d-%s-%s-%s-%s)" % (first, key[0], key[1], "TEKLA/1204F250", key[2])
+        est = b"\1" + (990).to_bytes(2, "big") + len(text).to_bytes(2, "big") + text.encode("ascii")
+        at, last = STARTS[3] + 2 * WAITING, STARTS[3] + 15 * WAITING
+        return self.base[:at] + est.ljust(WAITING, b"\0") + self.base[at + WAITING:last] + bytes(WAITING) + self.base[last + WAITING:]
+
+    def texts(self):
+        answered = next(n for n in range(700, 778) if self.base[STARTS[4] + n] == 1)
+        fpl = "(FPLKZMP/CZWG000" + "".join("-" + f for f in self.writer.fields("FPL")) + ")"
+        return [self.change(1, 20, "KZMP/CZWG", 0), fpl, self.change(2, 20, "CZWG/KZMP", 778),
+                self.change(2, 20, "CZWG/KZMP", answered), "(LAMCZWG/KZMP990KZMP/CZWG990)", "990"]
 
 
 class Changes:
@@ -182,6 +216,12 @@ class Changes:
 
 
 def main(arguments):
+    if arguments[0] == "calls":
+        sys.stdout.buffer.write(Calls(Chance(int(arguments[1]))).memory())
+        return
+    if arguments[0] == "texts":
+        print("\n".join(Calls(Chance(int(arguments[1]))).texts()))
+        return
     base = Flights(Chance(int(arguments[1]))).link()
     if arguments[0] == "link":
         sys.stdout.buffer.write(base)

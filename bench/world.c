@@ -695,7 +695,7 @@ static void report(void)
     tell("keys changed", happened.key_changed);
     tell("offers retired by an acceptance", happened.retired);
     tell("acceptance arrives while a retract waits", happened.crossed);
-    tell("RTA answered LRM 57", happened.crossed_and_rejected);
+    tell("retracts that crossed an acceptance, LRM 57", happened.crossed_and_rejected);
     tell("repeated arrivals", happened.repeated);
     tell("answers to what is answered", happened.answered_twice);
     tell("first arrivals of old numbers", happened.late_first);

@@ -1,6 +1,6 @@
 #!/usr/bin/env python3
 """Two ends of a link, by document 01's rules, worked out again here and not from the project's code. `--script` prints the
-script that the program `linked` runs, and without it this prints what that program has to answer.
+script of tests/link-script.txt, and without it this prints what two ends have to answer, tests/link-answers.txt.
 
 A line of a script is the end (A or B), a letter and the rest: u sets up (the two names), s sends (a draft; its own number is
 not looked at), r receives (a text), n resends (a number), p passes on: the other end receives the text that this one gave last,

@@ -4,3 +4,4 @@ pub mod Resending
 pub mod Beginning
 pub mod Sending
 pub mod Received
+pub mod One

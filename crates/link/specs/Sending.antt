@@ -15,12 +15,14 @@ use Rattle.drafts.specs.Draft.{Drafted, Draws}
 use Rattle.drafts.specs.Moved.{drafted-one}
 use Rattle.head.specs.declared.Head.{Head}
 use Rattle.head.specs.Sound.{HeadFormed}
-use Rattle.unanswered.specs.Waiting.{isAnswer}
-use Rattle.memory.specs.End.{Memory, Formed, endOf}
+use Rattle.unanswered.specs.Waiting.{isAnswer, UnansweredFormed}
+use Rattle.memory.specs.End.{Memory, Formed, FormedBeside, endOf}
+use Rattle.memory.specs.Held.{all-formed}
+use Rattle.rules.specs.Replies.{refused, number}
 use Rattle.rules.specs.Sending.{send}
 use Rattle.calls.specs.declared.Answer.the-variants as answer
 use Rattle.calls.specs.declared.Outcome.{Outcome}
-use Rattle.calls.specs.Calls.{Comes}
+use Rattle.calls.specs.Calls.{refusalIn, Comes, Called}
 use Rattle.link.specs.Beginning.{name-long}
 use Rattle.link.specs.Sends.{Sent}
 
@@ -53,33 +55,32 @@ module _ (ours partners : List ℕ) (n : ℕ) (d : List ℕ) (r : Record) (t t�
 
 -- THE CALL
 
+-- what has no text to send: 12 for the unanswered messages, else 13
+pub record Refuses (h : Head) (U : List ℕ) (o : Outcome) : Type 0 where
+  pub broken : (UnansweredFormed (h .ours) (h .partners) U → ⊥) → o ≡ record { answer = answer.NotFormed; head = h }
+  pub formed : UnansweredFormed (h .ours) (h .partners) U → o ≡ record { answer = answer.BreaksRule; head = h }
+
 module _ (d : List ℕ) (r : Record) (h : Head) (m : Memory) (out : List ℕ) where
-  pub sent-damaged : {b : Bool} → Decides b (Formed h m) → b ≡ false → Sent d r h m out (record { answer = answer.NotFormed; head = h }) m out
+  pub sent-damaged : {b : Bool} → Decides b (FormedBeside h (m .sent) (m .received) (m .answers)) → b ≡ false → Sent d r h m out (record { answer = answer.NotFormed; head = h }) m out
   sent-damaged b e =
-      let n : Formed h m → ⊥ = λ f. false≢true (sym e ∙ b .no f) in
+      let n : Formed h m → ⊥ = λ f. false≢true (sym e ∙ b .no (record { head = f .head; sent = f .sent; received = f .received; answers = f .answers })) in
       record { damaged = λ k. (refl, refl, refl, refl); answer = λ f. absurd (n f); broken = λ f. absurd (n f); drafted = λ f. absurd (n f) }
 
-  module _ (f : Formed h m) where
-    pub sent-answer : isAnswer (r .kind) ≡ true → Sent d r h m out (record { answer = answer.BreaksRule; head = h }) m out
-    sent-answer y = record {
-      damaged = λ n. absurd (n f);
-      answer = λ g e. (refl, refl, refl, refl);
-      broken = λ g n. (refl, refl, refl, refl);
-      drafted = λ g e. absurd (false≢true (sym e ∙ y));
-    }
+  pub sent-refused : (o : Outcome) → FormedBeside h (m .sent) (m .received) (m .answers) → Refuses h (m .unanswered) o → (isAnswer (r .kind) ≡ false → (w : List ℕ) → Drafted (h .ours) (h .partners) (h .next) d r w → ⊥) → Sent d r h m out o m out
+  sent-refused o f k n = record {
+    damaged = λ g. let e = k .broken (λ u. g (all-formed h m f u)) in (ap (λ (x : Outcome). refusalIn (x .answer)) e, ap (λ (x : Outcome). x .head) e, refl, refl);
+    answer = λ g y. thirteen g;
+    broken = λ g y. thirteen g;
+    drafted = λ g e w x. absurd (n e w x);
+  }
+    where
+      thirteen : Formed h m → Comes (refused (number 13)) h m out o m out
+      thirteen g = let e = k .formed (g .unanswered) in (ap (λ (x : Outcome). refusalIn (x .answer)) e, ap (λ (x : Outcome). x .head) e, refl, refl)
 
-    pub sent-broken : ((w : List ℕ) → Drafted (h .ours) (h .partners) (h .next) d r w → ⊥) → Sent d r h m out (record { answer = answer.BreaksRule; head = h }) m out
-    sent-broken n = record {
-      damaged = λ k. absurd (k f);
-      answer = λ g e. (refl, refl, refl, refl);
-      broken = λ g k. (refl, refl, refl, refl);
-      drafted = λ g e w x. absurd (n w x);
-    }
-
-    pub sent-drafted : (w : List ℕ) (o : Outcome) (m′ : Memory) (out′ : List ℕ) → isAnswer (r .kind) ≡ false → Drafted (h .ours) (h .partners) (h .next) d r w → Comes (send (length out) w (endOf h m)) h m out o m′ out′ → Sent d r h m out o m′ out′
-    sent-drafted w o m′ out′ e x q = record {
-      damaged = λ k. absurd (k f);
-      answer = λ g y. absurd (false≢true (sym e ∙ y));
-      broken = λ g k. absurd (k w x);
-      drafted = λ g y v z. subst (λ (t : List ℕ). Comes (send (length out) t (endOf h m)) h m out o m′ out′) (drafted-one (h .ours) (h .partners) (h .next) d r w v x z) q;
-    }
+  pub sent-drafted : (w : List ℕ) (o : Outcome) (m′ : Memory) (out′ : List ℕ) → isAnswer (r .kind) ≡ false → Drafted (h .ours) (h .partners) (h .next) d r w → Called (send (length out) w) h m out o m′ out′ → Sent d r h m out o m′ out′
+  sent-drafted w o m′ out′ e x q = record {
+    damaged = q .damaged;
+    answer = λ g y. absurd (false≢true (sym e ∙ y));
+    broken = λ g k. absurd (k w x);
+    drafted = λ g y v z. subst (λ (t : List ℕ). Comes (send (length out) t (endOf h m)) h m out o m′ out′) (drafted-one (h .ours) (h .partners) (h .next) d r w v x z) (q .formed g);
+  }

@@ -9,7 +9,7 @@ ghost use Rattle.message.specs.declared.Verdict.the-variants.{Read};
 ghost use Rattle.message.specs.Reader.{Ruled};
 ghost use Rattle.head.specs.Sound.{HeadFormed};
 ghost use Rattle.flights.specs.Formed.{TableFormed};
-ghost use Rattle.unanswered.specs.Waiting.{UnansweredFormed};
+ghost use Rattle.answers.specs.Given.{AnswersFormed};
 ghost use Rattle.memory.specs.End.{lent, Formed, endOf};
 ghost use Rattle.deeds.specs.Message.{messageOf};
 ghost use Rattle.rules.specs.Receiving.{hear as hearOf, receive as receiveOf};
@@ -17,6 +17,7 @@ ghost use Rattle.rules.specs.Sending.{send as sendOf, resend as resendOf};
 ghost use Rattle.calls.specs.Calls.{Comes, Called};
 ghost use Rattle.link.specs.SetUp.{Sized, Sizes, Names, firstHead, SetsUp};
 ghost use Rattle.link.specs.Sends.{Sent};
+ghost use Rattle.link.specs.Sending.{Refuses};
 use calls::Answer;
 use calls::Outcome;
 use drafts::Drafting;
@@ -137,6 +138,24 @@ pub fn set_up(
     }
 }
 
+// What has no text to send is refused by 13; 12 for the unanswered messages comes before.
+fn refuse(h: Head, unanswered: &[u8]) -> Outcome
+    ensures { λ o. ⌜ Refuses h (now (unanswered .entry)) o ⌝ }
+{
+    let ours = h.ours;
+    let partners = h.partners;
+    if unanswered::is_unanswered(unanswered, &ours, &partners) {
+        return Outcome {
+            answer: Answer::BreaksRule,
+            head: h,
+        };
+    }
+    Outcome {
+        answer: Answer::NotFormed,
+        head: h,
+    }
+}
+
 // A text that was laid out is sent; it is read again for its record.
 fn send_draft(
     h: Head,
@@ -146,14 +165,15 @@ fn send_draft(
     unanswered: &mut [u8],
     out: &mut [u8],
 ) -> Outcome
-    requires { ⌜ Ruled (now w) Read × HeadFormed h × TableFormed (now sent) × TableFormed (now received) × UnansweredFormed (h .ours) (h .partners) (now unanswered) ⌝ }
-    ensures { λ o. ⌜ ((A : List ℕ) → Formed h (lent (now (sent .entry)) (now (received .entry)) (now (unanswered .entry)) A) → Comes (sendOf (length (now (out .entry))) (now (w .entry)) (endOf h (lent (now (sent .entry)) (now (received .entry)) (now (unanswered .entry)) A))) h (lent (now (sent .entry)) (now (received .entry)) (now (unanswered .entry)) A) (now (out .entry)) o (lent (now (sent .entry)) (now (received .exit)) (now (unanswered .exit)) A) (now (out .exit))) ⌝ }
+    requires { ⌜ Ruled (now w) Read × HeadFormed h × TableFormed (now sent) × TableFormed (now received) ⌝ }
+    ensures { λ o. ⌜ ((A : List ℕ) → AnswersFormed A → Called (sendOf (length (now (out .entry))) (now (w .entry))) h (lent (now (sent .entry)) (now (received .entry)) (now (unanswered .entry)) A) (now (out .entry)) o (lent (now (sent .entry)) (now (received .exit)) (now (unanswered .exit)) A) (now (out .exit))) ⌝ }
 {
     let q = message::read(w);
     sending::send_text(h, w, q.record, sent, received, unanswered, out)
 }
 
-// SENDING what a record over the bytes d says, under the next number.
+// SENDING what a record over the bytes d says, under the next number. The unanswered messages are looked at with its text at
+// hand, each once; nothing lent is written before.
 pub fn send(
     h: Head,
     r: Record,
@@ -166,7 +186,7 @@ pub fn send(
 ) -> Outcome
     ensures { λ o. ⌜ Sent (now (d .entry)) r h (lent (now (sent .entry)) (now (received .entry)) (now (unanswered .entry)) (now (answers .entry))) (now (out .entry)) o (lent (now (sent .entry)) (now (received .exit)) (now (unanswered .exit)) (now (answers .entry))) (now (out .exit)) ⌝ }
 {
-    if !memory::is_sound(h, sent, received, unanswered, answers) {
+    if !memory::is_sound_beside(h, sent, received, answers) {
         return Outcome {
             answer: Answer::NotFormed,
             head: h,
@@ -174,10 +194,7 @@ pub fn send(
     }
     let k = r.kind;
     if unanswered::is_answer(k) {
-        return Outcome {
-            answer: Answer::BreaksRule,
-            head: h,
-        };
+        return refuse(h, unanswered);
     }
     let ours = h.ours;
     let partners = h.partners;
@@ -185,10 +202,7 @@ pub fn send(
     let v = drafts::draft(&mut text, &ours, &partners, h.next, r, d);
     match v {
         Drafting::Written(n) => send_draft(h, &text[..n], sent, received, unanswered, out),
-        Drafting::BreaksRule => Outcome {
-            answer: Answer::BreaksRule,
-            head: h,
-        },
+        Drafting::BreaksRule => refuse(h, unanswered),
     }
 }
 

@@ -42,6 +42,13 @@ pub record Formed (h : Head) (m : Memory) : Type 0 where
   pub unanswered : UnansweredFormed (h .ours) (h .partners) (m .unanswered)
   pub answers : AnswersFormed (m .answers)
 
+-- all of it but the unanswered messages
+pub record FormedBeside (h : Head) (S R A : List ℕ) : Type 0 where
+  pub head : HeadFormed h
+  pub sent : TableFormed S
+  pub received : TableFormed R
+  pub answers : AnswersFormed A
+
 -- THE END THAT THE MEMORY HOLDS
 
 abbrev pub readWaiting : List ℕ → Option Waiting

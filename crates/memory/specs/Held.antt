@@ -26,15 +26,25 @@ use Rattle.unanswered.specs.Encoded as encoded
 use Rattle.unanswered.specs.Encoded.{bytes-long, proper-short}
 use Rattle.unanswered.specs.Deciding.{formed-short, formed-proper}
 use Rattle.answers.specs.Given.{AnswersFormed}
-use Rattle.memory.specs.End.{Memory, Formed, readWaiting, waitingForm, waitingIn, numbered, endOf, memoryOf}
+use Rattle.memory.specs.End.{Memory, Formed, FormedBeside, readWaiting, waitingForm, waitingIn, numbered, endOf, memoryOf}
 
 -- WELL FORMED, part by part
-pub memory-is : (h : Head) (m : Memory) {a b c d e : Bool} → Decides a (HeadFormed h) → Decides b (TableFormed (m .sent)) → Decides c (TableFormed (m .received)) → Decides d (UnansweredFormed (h .ours) (h .partners) (m .unanswered)) → Decides e (AnswersFormed (m .answers)) → Decides ((((a && b) && c) && d) && e) (Formed h m)
-memory-is h m a b c d e =
+pub beside-is : (h : Head) (S R A : List ℕ) {a b c d : Bool} → Decides a (HeadFormed h) → Decides b (TableFormed S) → Decides c (TableFormed R) → Decides d (AnswersFormed A) → Decides (((a && b) && c) && d) (FormedBeside h S R A)
+beside-is h S R A a b c d =
     decides-as
-    (λ p. record { head = p .0 .0 .0 .0; sent = p .0 .0 .0 .1; received = p .0 .0 .1; unanswered = p .0 .1; answers = p .1 })
-    (λ f. ((((f .head, f .sent), f .received), f .unanswered), f .answers))
-    (decides-and (decides-and (decides-and (decides-and a b) c) d) e)
+    (λ p. record { head = p .0 .0 .0; sent = p .0 .0 .1; received = p .0 .1; answers = p .1 })
+    (λ f. (((f .head, f .sent), f .received), f .answers))
+    (decides-and (decides-and (decides-and a b) c) d)
+
+pub all-formed : (h : Head) (m : Memory) → FormedBeside h (m .sent) (m .received) (m .answers) → UnansweredFormed (h .ours) (h .partners) (m .unanswered) → Formed h m
+all-formed h m f u = record { head = f .head; sent = f .sent; received = f .received; unanswered = u; answers = f .answers }
+
+pub memory-is : (h : Head) (m : Memory) {a b : Bool} → Decides a (FormedBeside h (m .sent) (m .received) (m .answers)) → Decides b (UnansweredFormed (h .ours) (h .partners) (m .unanswered)) → Decides (a && b) (Formed h m)
+memory-is h m a b =
+    decides-as
+    (λ p. all-formed h m (p .0) (p .1))
+    (λ f. (record { head = f .head; sent = f .sent; received = f .received; answers = f .answers }, f .unanswered))
+    (decides-and a b)
 
 -- THE 16 PLACES
 

@@ -18,6 +18,7 @@ use Rattle.rules.specs.Reads.{messageIn}
 use Rattle.rules.specs.Answers.{isAcceptance}
 use Rattle.rules.specs.Receiving.{receive}
 use Rattle.response.specs.Answering.{answerText}
+use Rattle.rules.specs.Refusals.{receive-numbered}
 use Rattle.calls.specs.declared.Outcome.{Outcome}
 use Rattle.calls.specs.Calls.{Called, Comes}
 use Rattle.kinds.specs.Tools.{true-false, none-some, some-inj}
@@ -29,7 +30,7 @@ use Rattle.exchange.specs.Agreement as agreement
 use Rattle.answering.specs.Answered.{Answerable}
 use Rattle.keeping.specs.Memory.{sound-of}
 use Rattle.views.specs.Learnt.{content-near, learn-done, learn-none}
-use Rattle.views.specs.Heard.{Heeded, receive-refused}
+use Rattle.views.specs.Heard.{Heeded}
 use Rattle.pair.specs.World.{Copy, Among, Side, count, InTime, number, given}
 use Rattle.pair.specs.Came.{Refuses, Gives, came, came-refused, came-done}
 use Rattle.pair.specs.Parts.{hear-seen, hear-refused, Heard, answer-heard}
@@ -65,7 +66,7 @@ module _ {a b : List ℕ} {σ τ : ℕ → List ℕ} {X Y : Side} (F : Follows a
 
     module _ (out out′ : List ℕ) (o : Outcome) (m′ : Memory) (q : Called (receive (length out) (c .text)) (Y .head) (Y .memory) out o m′ out′) where
       arrival : ((x : Refusal) × (receive (length out) (c .text) (endIn Y) ≡ refused x) × Refuses (Y .head) (Y .memory) o m′ out′ x) ⊎ ((e : End) × (s : List ℕ) × (receive (length out) (c .text) (endIn Y) ≡ done e s) × Gives o m′ out′ e s)
-      arrival = came (receive (length out) (c .text) (endIn Y)) (receive-refused (length out) (c .text) (endIn Y)) (Y .head) (Y .memory) out o m′ out′ (q .formed (F .there .formed))
+      arrival = came (receive (length out) (c .text) (endIn Y)) (receive-numbered (length out) (c .text) (endIn Y)) (Y .head) (Y .memory) out o m′ out′ (q .formed (F .there .formed))
 
       -- it is refused for want of room only
       wanting : (x : Refusal) → receive (length out) (c .text) (endIn Y) ≡ refused x → (x ≡ by 2) × (length out < 1077)

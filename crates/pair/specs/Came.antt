@@ -13,6 +13,7 @@ use borrow.Author.Tests.{ne-eqb}
 use Rattle.head.specs.declared.Head.{Head}
 use Rattle.memory.specs.End.{End, Memory, memoryOf}
 use Rattle.rules.specs.Replies.{Refusal, Reply, refused, done}
+use Rattle.rules.specs.Refusals.{Numbered}
 use Rattle.calls.specs.declared.Answer.{Answer}
 use Rattle.calls.specs.declared.Outcome.{Outcome}
 use Rattle.calls.specs.Calls.{refusalIn, lengthIn, Comes}
@@ -51,10 +52,6 @@ module _ (h : Head) (m : Memory) (out : List ℕ) (o : Outcome) (m′ : Memory) 
     given = ap (λ (a : Answer). cond (eqb (refusalIn a .number) 0) (some (take (lengthIn a) out′)) none) (c .0) ∙ ap (λ (s : List ℕ). some (take (length t) s)) (c .3) ∙ ap (λ (s : List ℕ). some s) (take-append-seam t (drop (length t) out));
   }
 
--- a reply that refuses by no number 0
-abbrev pub Numbered : Reply → Type 0
-Numbered y = (x : Refusal) → y ≡ refused x → 1 ≤ x .number
-
 pub came : (y : Reply) → Numbered y → (h : Head) (m : Memory) (out : List ℕ) (o : Outcome) (m′ : Memory) (out′ : List ℕ) → Comes y h m out o m′ out′ → ((x : Refusal) × (y ≡ refused x) × Refuses h m o m′ out′ x) ⊎ ((e : End) × (t : List ℕ) × (y ≡ done e t) × Gives o m′ out′ e t)
-came (refused x) n h m out o m′ out′ c = inl (x, refl, came-refused h m out o m′ out′ x (n x refl) c)
+came (refused x) n h m out o m′ out′ c = inl (x, refl, came-refused h m out o m′ out′ x n c)
 came (done e t) n h m out o m′ out′ c = inr (e, t, refl, came-done h m out o m′ out′ e t c)

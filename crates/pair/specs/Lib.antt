@@ -10,3 +10,6 @@ pub mod Agreeing
 pub mod Arriving
 pub mod NoMore
 pub mod Demand
+pub mod Trees
+pub mod Stages
+pub mod Example

@@ -20,6 +20,7 @@ use Rattle.rules.specs.Reads.{messageIn}
 use Rattle.rules.specs.Receiving.{directed, waitingAt, receive}
 use Rattle.rules.specs.Sending.{send, resend}
 use Rattle.response.specs.Answering.{answerText}
+use Rattle.rules.specs.Refusals.{receive-numbered, send-numbered, resend-numbered}
 use Rattle.calls.specs.declared.Outcome.{Outcome}
 use Rattle.calls.specs.Calls.{Called, Comes}
 use Rattle.link.specs.Sends.{Sent}
@@ -38,8 +39,7 @@ use Rattle.answering.specs.Answered.{Answerable}
 use Rattle.keeping.specs.Memory.{sound-of}
 use Rattle.keeping.specs.Calls.{Stays, receive-sound}
 use Rattle.views.specs.Waits.{waits-found}
-use Rattle.views.specs.Sent.{send-seen, send-refused, resend-seen, resend-refused}
-use Rattle.views.specs.Heard.{receive-refused}
+use Rattle.views.specs.Sent.{send-seen, resend-seen}
 
 -- the run goes on, or stays
 pub data Onward (s : Script) (x y : run.Side) : run.Side → run.Side → Type 0 where
@@ -163,7 +163,7 @@ module _ {a b : List ℕ} {σ τ : ℕ → List ℕ} {X Y : Side} {x y : run.Sid
     pub sends-on : Asked (X .head) d r → x .view .next ≡ num (x .len) → Spells σ (sent o m (given o out′) X) → Next a b σ τ x y (sent o m (given o out′) X) Y
     sends-on (answer k) n s = unsent _ (omega arith) (c .answer (K .formed) k)
     sends-on (unwritten k) n s = unsent _ (omega arith) (c .broken (K .formed) k)
-    sends-on (text w k dr) n s = elim (came (send (length out) w (endIn X)) (send-refused (length out) w (endIn X)) (X .head) (X .memory) out o m out′ (c .drafted (K .formed) k w dr)) [
+    sends-on (text w k dr) n s = elim (came (send (length out) w (endIn X)) (send-numbered (length out) w (endIn X)) (X .head) (X .memory) out o m out′ (c .drafted (K .formed) k w dr)) [
       | inl f ↦ same (sent o m (given o out′) X) Y (sent-none X o m (given o out′) (f .2 .head) (f .2 .memory) (f .2 .given)) refl
       | inr f ↦ sent-on w k dr n s (f .0) (f .1) (f .2) (f .3)
     ]
@@ -223,7 +223,7 @@ module _ {a b : List ℕ} {σ τ : ℕ → List ℕ} {X Y : Side} {x y : run.Sid
           copies v (there l) = K .copies v l
 
     pub resends-on : Called (resend (length out) n) (X .head) (X .memory) out o m out′ → Next a b σ τ x y (resent n o m (given o out′) X) Y
-    resends-on c = elim (came (resend (length out) n (endIn X)) (resend-refused (length out) n (endIn X)) (X .head) (X .memory) out o m out′ (c .formed (K .formed))) [
+    resends-on c = elim (came (resend (length out) n (endIn X)) (resend-numbered (length out) n (endIn X)) (X .head) (X .memory) out o m out′ (c .formed (K .formed))) [
       | inl f ↦ same (resent n o m (given o out′) X) Y (resent-none X o m (given o out′) (f .2 .head) (f .2 .memory) (f .2 .given) n) refl
       | inr f ↦ record { first = x; second = y; onward = stays; here = subst (λ (u : Side). Kept a b σ u x) (sym (to-Zr (f .0) (f .1) (f .2) (f .3))) (kept-r (f .0) (f .1) (f .2) (f .3)); there = L }
     ]
@@ -322,7 +322,7 @@ module _ {a b : List ℕ} {σ τ : ℕ → List ℕ} {X Y : Side} {x y : run.Sid
       }
 
     pub hears-on : Called (receive (length out) (c .text)) (Y .head) (Y .memory) out o m out′ → Next a b σ τ x y (answered (c .index) (given o out′) X) (changed o m Y)
-    hears-on q = elim (came (receive (length out) (c .text) (endIn Y)) (receive-refused (length out) (c .text) (endIn Y)) (Y .head) (Y .memory) out o m out′ (q .formed (L .formed))) [
+    hears-on q = elim (came (receive (length out) (c .text) (endIn Y)) (receive-numbered (length out) (c .text) (endIn Y)) (Y .head) (Y .memory) out o m out′ (q .formed (L .formed))) [
       | inl f ↦ same (answered (c .index) (given o out′) X) (changed o m Y) (answered-none X (c .index) (given o out′) (f .2 .given)) (changed-none Y o m (f .2 .head) (f .2 .memory))
       | inr f ↦ heard-on (f .0) (f .1) (f .2) (f .3)
     ]
@@ -365,7 +365,7 @@ module _ {a b : List ℕ} {σ τ : ℕ → List ℕ} {X Y : Side} {x y : run.Sid
       }
 
     pub learns-on : Called (receive (length out) (c .text)) (X .head) (X .memory) out o m out′ → Next a b σ τ x y (changed o m X) Y
-    learns-on q = elim (came (receive (length out) (c .text) (endIn X)) (receive-refused (length out) (c .text) (endIn X)) (X .head) (X .memory) out o m out′ (q .formed (K .formed))) [
+    learns-on q = elim (came (receive (length out) (c .text) (endIn X)) (receive-numbered (length out) (c .text) (endIn X)) (X .head) (X .memory) out o m out′ (q .formed (K .formed))) [
       | inl f ↦ same (changed o m X) Y (changed-none X o m (f .2 .head) (f .2 .memory)) refl
       | inr f ↦ record { first = become (viewOf (f .0)) x; second = y; onward = turns (turn-l (f .0) (f .1) (f .2) (f .3)); here = kept-l (f .0) (f .1) (f .2) (f .3); there = L }
     ]

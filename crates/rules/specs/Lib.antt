@@ -6,3 +6,4 @@ pub mod Sending
 pub mod Keys
 pub mod Laws
 pub mod Crossing
+pub mod Refusals

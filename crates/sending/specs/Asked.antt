@@ -27,11 +27,6 @@ use Rattle.deeds.specs.Deeds.{deedOf, makes}
 use Rattle.rules.specs.Reads.{messageIn, read-message}
 use Rattle.rules.specs.Sending.{anyWaiting, countWaiting, tooOld, making, namesOne, naming}
 
--- a text that is read, whatever its record
-pub record Readable (w : List ℕ) : Type 0 where
-  pub its : Record
-  pub read : Judged w Read its
-
 -- well formed, whatever the two names
 pub record Waits (t : List ℕ) : Type 0 where
   pub ours : List ℕ
@@ -42,38 +37,27 @@ pub record Waits (t : List ℕ) : Type 0 where
 unfoldable pub usedWith : (Waiting → Bool) → List ℕ → Bool
 usedWith p b = not (free b) && p (waitingOf b)
 
--- A TEXT THAT IS KEPT
-
-pub kept-read : (w : List ℕ) (v : Verdict) (r : Record) → Readable w → Judged w v r → Judged w Read r
-kept-read w v r k j = subst (λ (x : Verdict). Judged w x r) (judged-one w v Read r (k .its) j (k .read) .verdicts) j
-
 -- A PLACE THAT IS FREE has nothing; of one that is used, its message is asked
 
 -- the first byte, as the code reads it
+pub first-free : (t : List ℕ) (i : ℕ) → getD t (i * 1280) 0 ≡ 0 → free (place i t) ≡ true
+first-free t i e = eq-eqb (getD (place i t) 0 0) 0 (first-at t i ∙ e)
+
 pub first-used : (t : List ℕ) (i : ℕ) → (getD t (i * 1280) 0 ≡ 0 → ⊥) → free (place i t) ≡ false
 first-used t i n = ne-eqb (getD (place i t) 0 0) 0 (λ e. n (sym (first-at t i) ∙ e))
 
 module _ (p : Waiting → Bool) (t : List ℕ) (i : ℕ) where
-  pub free-has-none : getD t (i * 1280) 0 ≡ 0 → false ≡ usedWith p (place i t)
+  pub free-has-none : free (place i t) ≡ true → false ≡ usedWith p (place i t)
   unfolding usedWith
-  free-has-none e = rw (eq-eqb (getD (place i t) 0 0) 0 (first-at t i ∙ e))
+  free-has-none e = rw e
 
-  pub used-has : (getD t (i * 1280) 0 ≡ 0 → ⊥) → (b : Bool) → b ≡ p (waitingOf (place i t)) → b ≡ usedWith p (place i t)
+  pub used-has : free (place i t) ≡ false → (b : Bool) → b ≡ p (waitingOf (place i t)) → b ≡ usedWith p (place i t)
   unfolding usedWith
-  used-has n b e = e ∙ rw (first-used t i n)
+  used-has n b e = e ∙ rw n
 
-module _ {t : List ℕ} (k : Waits t) (i : ℕ) (h : i < 16) (n : getD t (i * 1280) 0 ≡ 0 → ⊥) where
-  -- its number, its length and its text are those of a message
-  pub number-most : waitingOf (place i t) .number ≤ 999
-  number-most = waiting-used (k .formed) i h (first-used t i n) .proper .most
-
-  pub text-most : numberAt 3 (place i t) ≤ 1275
-  text-most = waiting-used (k .formed) i h (first-used t i n) .short
-
-  pub text-readable : (s : List ℕ) → s ≡ waitingOf (place i t) .text → Readable s
-  text-readable s e =
-      let q = waiting-used (k .formed) i h (first-used t i n) .proper in
-      subst Readable (sym e) (record { its = q .its; read = q .read })
+-- its number is that of a message
+pub number-most : {t : List ℕ} → Waits t → (i : ℕ) → i < 16 → (getD t (i * 1280) 0 ≡ 0 → ⊥) → waitingOf (place i t) .number ≤ 999
+number-most {t} k i h n = waiting-used (k .formed) i h (first-used t i n) .proper .most
 
 -- the number, as the code reads it
 pub lent-number : (t : List ℕ) (i x : ℕ) → x ≡ numberAt 1 (take (i * 1280 + 1280 - i * 1280) (drop (i * 1280) t)) → x ≡ waitingOf (place i t) .number
@@ -120,7 +104,7 @@ module _ (p : Waiting → Bool) where
   any-on true q l = refl
   any-on false q l = refl
 
-  any-step : (i : ℕ) (t : List ℕ) → i < 16 → anyWaiting p (restOf i t) ≡ (usedWith p (place i t) || anyWaiting p (restOf (i + 1) t))
+  pub any-step : (i : ℕ) (t : List ℕ) → i < 16 → anyWaiting p (restOf i t) ≡ (usedWith p (place i t) || anyWaiting p (restOf (i + 1) t))
   unfolding usedWith
   any-step i t h = ap (anyWaiting p) (rest-next i t h) ∙ any-on (free (place i t)) (waitingOf (place i t)) (restOf (i + 1) t)
 
@@ -130,9 +114,18 @@ module _ (p : Waiting → Bool) where
   pub any-next : (i : ℕ) (t : List ℕ) → i < 16 → usedWith p (place i t) ≡ false → anyWaiting p (restOf i t) ≡ anyWaiting p (restOf (i + 1) t)
   any-next i t h e = any-step i t h ∙ ap (λ (b : Bool). b || anyWaiting p (restOf (i + 1) t)) e
 
+  -- with what was found up to i
+  pub any-on-further : (i : ℕ) (t : List ℕ) (all found x : Bool) → i < 16 → x ≡ usedWith p (place i t) → all ≡ (found || anyWaiting p (restOf i t)) → all ≡ ((found || x) || anyWaiting p (restOf (i + 1) t))
+  any-on-further i t all true x h u e = e
+  any-on-further i t all false x h u e = e ∙ any-step i t h ∙ ap (λ (b : Bool). b || anyWaiting p (restOf (i + 1) t)) (sym u)
+
   pub any-none : (i : ℕ) (t : List ℕ) → 16 ≤ i → anyWaiting p (restOf i t) ≡ false
   unfolding anyWaiting
   any-none i t h = ap (anyWaiting p) (rest-none i t h)
+
+  pub any-end : (i : ℕ) (t : List ℕ) (all found : Bool) → 16 ≤ i → all ≡ (found || anyWaiting p (restOf i t)) → found ≡ all
+  any-end i t all true h e = sym e
+  any-end i t all false h e = sym (e ∙ any-none i t h)
 
   count-on : (b : Bool) (q : Waiting) (l : Places Waiting) → countWaiting p (cond b none (some q) ∷ l) ≡ cond (not b && p q) (suc (countWaiting p l)) (countWaiting p l)
   unfolding countWaiting

@@ -75,15 +75,15 @@ in-use-most t = omega (arith, used-in t, flights-many t, used-most (flightsIn t)
 pub making-most : (t : List ℕ) → countWaiting making (waitingIn t) ≤ 16
 making-most t = omega (arith, sixteen t, count-most making (waitingIn t))
 
-unfoldable pub tableFilled : Message → List ℕ → List ℕ → Bool
-tableFilled m sent unanswered = makes (deedOf m) && leb (length (flightsIn sent)) (used (flightsIn sent) + countWaiting making (waitingIn unanswered))
+-- with n unanswered messages that make a flight
+unfoldable pub tableFilled : Message → List ℕ → ℕ → Bool
+tableFilled m sent n = makes (deedOf m) && leb (length (flightsIn sent)) (used (flightsIn sent) + n)
 
-module _ (m : Message) (sent unanswered : List ℕ) (d : Deed) (b : Bool) (e : d ≡ deedOf m) (f : b ≡ makes d) where
-  pub never-filled : b ≡ false → false ≡ tableFilled m sent unanswered
+module _ (m : Message) (sent : List ℕ) (n : ℕ) (d : Deed) (b : Bool) (e : d ≡ deedOf m) (f : b ≡ makes d) where
+  pub never-filled : b ≡ false → false ≡ tableFilled m sent n
   unfolding tableFilled
   never-filled h = rw (sym (ap makes e) ∙ sym f ∙ h)
 
-  pub filled-by : b ≡ true → (n k : ℕ) → n ≡ inUse sent → k ≡ countWaiting making (waitingIn unanswered) → leb (length sent / 768) (n + k) ≡ tableFilled m sent unanswered
+  pub filled-by : b ≡ true → (k : ℕ) → k ≡ inUse sent → leb (length sent / 768) (k + n) ≡ tableFilled m sent n
   unfolding tableFilled
-  filled-by h n k p q =
-      (λ i. leb (sym (flights-many sent) i) ((p ∙ used-in sent) i + q i)) ∙ rw (sym (ap makes e) ∙ sym f ∙ h)
+  filled-by h k p = (λ i. leb (sym (flights-many sent) i) ((p ∙ used-in sent) i + n)) ∙ rw (sym (ap makes e) ∙ sym f ∙ h)

@@ -1,3 +1,4 @@
 pub mod Asked
+pub mod Survey
 pub mod Deciding
 pub mod Sent

@@ -30,16 +30,16 @@ use Rattle.deeds.specs.declared.Decision.{Decision}
 use Rattle.deeds.specs.Message.{Message, messageOf}
 use Rattle.deeds.specs.Deeds.{deedOf}
 use Rattle.deeds.specs.Applying.{decision, applied}
-use Rattle.memory.specs.End.{End, Memory, lent, waitingForm, waitingIn, endOf}
-use Rattle.memory.specs.Held.{free-waiting, waiting-below, stored}
+use Rattle.memory.specs.End.{End, Memory, lent, FormedBeside, waitingForm, waitingIn, endOf}
+use Rattle.memory.specs.Held.{all-formed, free-waiting, waiting-below, stored}
 use Rattle.rules.specs.Replies.{Reply, refused, done, number}
 use Rattle.rules.specs.Reads.{read-message}
 use Rattle.rules.specs.Answers.{isAcceptance}
-use Rattle.rules.specs.Sending.{anyWaiting, tooOld, naming, mayBeSent, fills, sending, sendAt, send}
+use Rattle.rules.specs.Sending.{anyWaiting, countWaiting, tooOld, naming, making, mayBeSent, fills, sending, sendAt, send}
 use Rattle.calls.specs.declared.Answer.{Answer}
-use Rattle.calls.specs.declared.Answer.the-variants.{Done, NoRoom, NamedAlready, TooManyUnanswered, TooFarBack, ConditionFails, TableFull}
+use Rattle.calls.specs.declared.Answer.the-variants.{Done, NoRoom, NamedAlready, TooManyUnanswered, TooFarBack, ConditionFails, TableFull, NotFormed}
 use Rattle.calls.specs.declared.Outcome.{Outcome}
-use Rattle.calls.specs.Calls.{refusalIn, Comes}
+use Rattle.calls.specs.Calls.{refusalIn, Comes, Called}
 use Rattle.sending.specs.Deciding.{holds, decidedOn, may-be-sent, tableFilled}
 
 -- THE WRITES
@@ -144,11 +144,11 @@ module _ (i : ℕ) (m : Message) (h : Head) (w S R U out : List ℕ) where
       sends-failing c A = refuses _ ConditionFails h (lent S R U A) out (fails i (length out) w m (endOf h (lent S R U A)) a b (sym (may-be-sent m (flightsIn S) (flightsIn R)) ∙ c))
 
       module _ (c : holds (decidedOn m (flightsIn S) (flightsIn R)) ≡ true) where
-        pub sends-full : tableFilled m S U ≡ true → Sends (At i) m h w S R U out (record { answer = TableFull; head = h }) R U out
+        pub sends-full : tableFilled m S (countWaiting making (waitingIn U)) ≡ true → Sends (At i) m h w S R U out (record { answer = TableFull; head = h }) R U out
         unfolding tableFilled
         sends-full d A = refuses _ TableFull h (lent S R U A) out (full i (length out) w m (endOf h (lent S R U A)) a b (sym (may-be-sent m (flightsIn S) (flightsIn R)) ∙ c) d)
 
-        module _ (d : tableFilled m S U ≡ false) where
+        module _ (d : tableFilled m S (countWaiting making (waitingIn U)) ≡ false) where
           pub sends-no-room : length out < length w → Sends (At i) m h w S R U out (record { answer = NoRoom; head = h }) R U out
           unfolding tableFilled
           sends-no-room k A =
@@ -180,3 +180,11 @@ module _ (h : Head) (w : List ℕ) (r : Record) (S R U out : List ℕ) (j : Judg
   unfolding sendAt
   sends-nowhere f =
       sends-text Nowhere (record { answer = TooManyUnanswered; head = h }) R U out f (λ A. refuses _ TooManyUnanswered h (lent S R U A) out refl)
+
+-- 12 comes first, of the memory that is well formed beside the unanswered messages
+module _ (h : Head) (w S R U out : List ℕ) (A : List ℕ) where
+  pub unanswered-broken : (UnansweredFormed (h .ours) (h .partners) U → ⊥) → Called (send (length out) w) h (lent S R U A) out (record { answer = NotFormed; head = h }) (lent S R U A) out
+  unanswered-broken n = record { formed = λ f. absurd (n (f .unanswered)); damaged = λ d. (refl, refl, refl, refl) }
+
+  pub unanswered-formed : (o : Outcome) (R′ U′ out′ : List ℕ) → FormedBeside h S R A → UnansweredFormed (h .ours) (h .partners) U → Comes (send (length out) w (endOf h (lent S R U A))) h (lent S R U A) out o (lent S R′ U′ A) out′ → Called (send (length out) w) h (lent S R U A) out o (lent S R′ U′ A) out′
+  unanswered-formed o R′ U′ out′ f u q = record { formed = λ g. q; damaged = λ d. absurd (d (all-formed h (lent S R U A) f u)) }

@@ -14,11 +14,13 @@ ghost use Rattle.unanswered.specs.Waiting.{place, UnansweredFormed};
 ghost use Rattle.deeds.specs.Message.{messageOf};
 ghost use Rattle.deeds.specs.Deeds.{deedOf};
 ghost use Rattle.deeds.specs.Applying.{decision};
-ghost use Rattle.memory.specs.End.{lent, Formed, waitingIn, endOf};
+ghost use Rattle.answers.specs.Given.{AnswersFormed};
+ghost use Rattle.memory.specs.End.{lent, waitingIn};
 ghost use Rattle.rules.specs.Answers.{isAcceptance};
-ghost use Rattle.rules.specs.Sending.{anyWaiting, countWaiting, tooOld, naming, making, send};
-ghost use Rattle.calls.specs.Calls.{Comes};
-ghost use Rattle.sending.specs.Asked.{Readable, Waits, usedWith};
+ghost use Rattle.rules.specs.Sending.{anyWaiting, tooOld, send};
+ghost use Rattle.calls.specs.Calls.{Called};
+ghost use Rattle.sending.specs.Asked.{Waits, usedWith};
+ghost use Rattle.sending.specs.Survey.{Sees, Counted, Surveys};
 ghost use Rattle.sending.specs.Deciding.{holds as holdsOf, decidedOn, tableFilled};
 ghost use Rattle.sending.specs.Sent.{accepted, Handed, Sends};
 use calls::Answer;
@@ -27,14 +29,94 @@ use deeds::Decision;
 use head::Head;
 use message::Record;
 use places::Place;
+use unanswered::Shown;
 
-// The record of a text that is kept; it was read when it was sent.
-fn read_kept(w: &[u8]) -> Record
-    requires { ⌜ Readable (now w) ⌝ }
-    ensures { λ r. ⌜ Judged (now (w .entry)) Read r ⌝ }
+// What one place shows: whether it is well formed, and whether its message names this one's flight, or makes one.
+struct Seen {
+    sound: bool,
+    named: bool,
+    makes: bool,
+}
+
+// What all 16 show: whether they are well formed (12), whether a message names this one's flight (7), how many make one (11).
+struct Surveyed {
+    sound: bool,
+    named: bool,
+    makers: usize,
+}
+
+// Place i, for the message r of the text w. Its own text is read once.
+fn see<'a>(u: &'a [u8], i: usize, ours: &[u8], partners: &[u8], w: &'a [u8], r: Record) -> Seen
+    requires { ⌜ (length (now u) ≡ 20480) × (i < 16) × Judged (now w) Read r ⌝ }
+    ensures { λ x. ⌜ Sees (now (ours .entry)) (now (partners .entry)) (messageOf (now (w .entry)) r) (now (u .entry)) i x ⌝ }
 {
-    let q = message::read(w);
-    q.record
+    let l = unanswered::look(u, i);
+    match l {
+        Shown::Broken => Seen {
+            sound: false,
+            named: false,
+            makes: false,
+        },
+        Shown::Empty => Seen {
+            sound: true,
+            named: false,
+            makes: false,
+        },
+        Shown::Message => {
+            let s = unanswered::text(u, i);
+            let q = message::read(s);
+            let its = q.record;
+            if !unanswered::is_proper(u, i, its, ours, partners) {
+                return Seen {
+                    sound: false,
+                    named: false,
+                    makes: false,
+                };
+            }
+            Seen {
+                sound: true,
+                named: rules::names_one(w, r, s, its),
+                makes: deeds::makes(deeds::deed_of(s, its)),
+            }
+        }
+    }
+}
+
+// The 16 places, once.
+fn survey<'a>(u: &'a [u8], ours: &[u8], partners: &[u8], w: &'a [u8], r: Record) -> Surveyed
+    requires { ⌜ Judged (now w) Read r ⌝ }
+    ensures { λ x. ⌜ Surveys (now (ours .entry)) (now (partners .entry)) (messageOf (now (w .entry)) r) (now (u .entry)) x ⌝ }
+{
+    let mut named = false;
+    let mut makers = 0;
+    if u.len() != 20480 {
+        return Surveyed {
+            sound: false,
+            named,
+            makers,
+        };
+    }
+    let mut i = 0;
+    while i < 16 {
+        let x = see(u, i, ours, partners, w, r);
+        if !x.sound {
+            return Surveyed {
+                sound: false,
+                named,
+                makers,
+            };
+        }
+        named = named | x.named;
+        if x.makes {
+            makers += 1;
+        }
+        i += 1;
+    }
+    Surveyed {
+        sound: true,
+        named,
+        makers,
+    }
 }
 
 // 9: Whether place i has a message 400 or more numbers back from the next.
@@ -64,61 +146,6 @@ fn too_far_back(u: &[u8], next: usize) -> bool
     false
 }
 
-// 7: Whether place i has a message that names this one's flight.
-fn is_named<'a>(u: &'a [u8], i: usize, w: &'a [u8], r: Record) -> bool
-    requires { ⌜ Waits (now u) × (i < 16) × Judged (now w) Read r ⌝ }
-    ensures { λ b. ⌜ b ≡ usedWith (naming (messageOf (now (w .entry)) r)) (place i (now (u .entry))) ⌝ }
-{
-    if u[i * 1280] == 0 {
-        return false;
-    }
-    let s = unanswered::text(u, i);
-    let q = read_kept(s);
-    rules::names_one(w, r, s, q)
-}
-
-fn any_names<'a>(u: &'a [u8], w: &'a [u8], r: Record) -> bool
-    requires { ⌜ Waits (now u) × Judged (now w) Read r ⌝ }
-    ensures { λ b. ⌜ b ≡ anyWaiting (naming (messageOf (now (w .entry)) r)) (waitingIn (now (u .entry))) ⌝ }
-{
-    let mut i = 0;
-    while i < 16 {
-        if is_named(u, i, w, r) {
-            return true;
-        }
-        i += 1;
-    }
-    false
-}
-
-// 11: Whether place i has a message that makes a flight.
-fn is_making(u: &[u8], i: usize) -> bool
-    requires { ⌜ Waits (now u) × (i < 16) ⌝ }
-    ensures { λ b. ⌜ b ≡ usedWith making (place i (now (u .entry))) ⌝ }
-{
-    if u[i * 1280] == 0 {
-        return false;
-    }
-    let s = unanswered::text(u, i);
-    let r = read_kept(s);
-    deeds::makes(deeds::deed_of(s, r))
-}
-
-fn count_making(u: &[u8]) -> usize
-    requires { ⌜ Waits (now u) ⌝ }
-    ensures { λ n. ⌜ n ≡ countWaiting making (waitingIn (now (u .entry))) ⌝ }
-{
-    let mut count = 0;
-    let mut i = 0;
-    while i < 16 {
-        if is_making(u, i) {
-            count += 1;
-        }
-        i += 1;
-    }
-    count
-}
-
 // 10: Whether the condition holds, from what was decided.
 fn holds(c: Decision) -> bool
     ensures { λ b. ⌜ b ≡ holdsOf c ⌝ }
@@ -142,14 +169,14 @@ fn decide(sent: &[u8], received: &[u8], w: &[u8], r: Record) -> Decision
 }
 
 // 11: Whether flights sent and unanswered messages that make one fill the table.
-fn is_filled(sent: &[u8], u: &[u8], w: &[u8], r: Record) -> bool
-    requires { ⌜ Judged (now w) Read r × TableFormed (now sent) × Waits (now u) ⌝ }
-    ensures { λ b. ⌜ b ≡ tableFilled (messageOf (now (w .entry)) r) (now (sent .entry)) (now (u .entry)) ⌝ }
+fn is_filled(sent: &[u8], makers: usize, w: &[u8], r: Record) -> bool
+    requires { ⌜ Judged (now w) Read r × TableFormed (now sent) × (makers ≤ 16) ⌝ }
+    ensures { λ b. ⌜ b ≡ tableFilled (messageOf (now (w .entry)) r) (now (sent .entry)) makers ⌝ }
 {
     if !deeds::makes(deeds::deed_of(w, r)) {
         return false;
     }
-    sent.len() / 768 <= flights::used(sent) + count_making(u)
+    sent.len() / 768 <= flights::used(sent) + makers
 }
 
 // THE WRITES, once nothing refuses.
@@ -198,12 +225,13 @@ fn send_at(
     h: Head,
     w: &[u8],
     r: Record,
+    x: Surveyed,
     sent: &[u8],
     received: &mut [u8],
     unanswered: &mut [u8],
     out: &mut [u8],
 ) -> Outcome
-    requires { ⌜ (i < 16) × Judged (now w) Read r × HeadFormed h × TableFormed (now sent) × TableFormed (now received) × UnansweredFormed (h .ours) (h .partners) (now unanswered) ⌝ }
+    requires { ⌜ (i < 16) × Judged (now w) Read r × HeadFormed h × TableFormed (now sent) × TableFormed (now received) × UnansweredFormed (h .ours) (h .partners) (now unanswered) × Counted (messageOf (now w) r) (now unanswered) x ⌝ }
     ensures { λ o. ⌜ Sends (At i) (messageOf (now (w .entry)) r) h (now (w .entry)) (now (sent .entry)) (now (received .entry)) (now (unanswered .entry)) (now (out .entry)) o (now (received .exit)) (now (unanswered .exit)) (now (out .exit)) ⌝ }
 {
     if too_far_back(unanswered, h.next) {
@@ -212,7 +240,7 @@ fn send_at(
             head: h,
         };
     }
-    if any_names(unanswered, w, r) {
+    if x.named {
         return Outcome {
             answer: Answer::NamedAlready,
             head: h,
@@ -225,7 +253,7 @@ fn send_at(
             head: h,
         };
     }
-    if is_filled(sent, unanswered, w, r) {
+    if is_filled(sent, x.makers, w, r) {
         return Outcome {
             answer: Answer::TableFull,
             head: h,
@@ -240,7 +268,8 @@ fn send_at(
     hand_over(i, c, h, w, r, received, unanswered, out)
 }
 
-// A text with the next number is sent, or it is refused by the first check that fails: 8, 9, 7, 10, 11, 2.
+// A text with the next number is sent, or it is refused by the first check that fails: 12 for the unanswered messages, 8, 9, 7,
+// 10, 11, 2.
 pub fn send_text(
     h: Head,
     w: &[u8],
@@ -250,12 +279,21 @@ pub fn send_text(
     unanswered: &mut [u8],
     out: &mut [u8],
 ) -> Outcome
-    requires { ⌜ Judged (now w) Read r × HeadFormed h × TableFormed (now sent) × TableFormed (now received) × UnansweredFormed (h .ours) (h .partners) (now unanswered) ⌝ }
-    ensures { λ o. ⌜ ((A : List ℕ) → Formed h (lent (now (sent .entry)) (now (received .entry)) (now (unanswered .entry)) A) → Comes (send (length (now (out .entry))) (now (w .entry)) (endOf h (lent (now (sent .entry)) (now (received .entry)) (now (unanswered .entry)) A))) h (lent (now (sent .entry)) (now (received .entry)) (now (unanswered .entry)) A) (now (out .entry)) o (lent (now (sent .entry)) (now (received .exit)) (now (unanswered .exit)) A) (now (out .exit))) ⌝ }
+    requires { ⌜ Judged (now w) Read r × HeadFormed h × TableFormed (now sent) × TableFormed (now received) ⌝ }
+    ensures { λ o. ⌜ ((A : List ℕ) → AnswersFormed A → Called (send (length (now (out .entry))) (now (w .entry))) h (lent (now (sent .entry)) (now (received .entry)) (now (unanswered .entry)) A) (now (out .entry)) o (lent (now (sent .entry)) (now (received .exit)) (now (unanswered .exit)) A) (now (out .exit))) ⌝ }
 {
+    let ours = h.ours;
+    let partners = h.partners;
+    let x = survey(unanswered, &ours, &partners, w, r);
+    if !x.sound {
+        return Outcome {
+            answer: Answer::NotFormed,
+            head: h,
+        };
+    }
     let p = unanswered::lowest_free(unanswered);
     match p {
-        Place::At(i) => send_at(i, h, w, r, sent, received, unanswered, out),
+        Place::At(i) => send_at(i, h, w, r, x, sent, received, unanswered, out),
         Place::Nowhere => Outcome {
             answer: Answer::TooManyUnanswered,
             head: h,

@@ -17,7 +17,8 @@ use Rattle.message.specs.declared.Record.{Record}
 use Rattle.message.specs.Reading.{Judged, cut}
 use Rattle.message.specs.Reader.{judged-one, words-within}
 use Rattle.places.specs.Bytes.{high, low, numberAt, high-of, low-of, two-bytes, each, stretch-is}
-use Rattle.unanswered.specs.Waiting.{Waiting, waiting, waitingBytes, waitingOf, isAnswer, Proper, WellFormed, free}
+use Rattle.unanswered.specs.declared.Shown.the-variants.{Broken, Empty, Message}
+use Rattle.unanswered.specs.Waiting.{Waiting, waiting, waitingBytes, waitingOf, isAnswer, Proper, WellFormed, free, Shows}
 use Rattle.unanswered.specs.Encoded.{waiting-back, bytes-back, proper-short}
 
 -- THE TEXT
@@ -48,6 +49,10 @@ proper-is ours partners m v r j t =
     (λ p.
     let e : p .its ≡ r = sym (judged-one (m .text) v Read r (p .its) j (p .read) .records) in
     subst (Tested ours partners m) e ((((p .message, p .number), p .most), p .sender), p .receiver))
+
+-- and it is the record of a text that is read, where the text may wait
+pub proper-read : (ours partners : List ℕ) (m : Waiting) (v : Verdict) (r : Record) → Judged (m .text) v r → Proper ours partners m → Judged (m .text) Read r
+proper-read ours partners m v r j p = subst (λ (x : Verdict). Judged (m .text) x r) (judged-one (m .text) v Read r (p .its) j (p .read) .verdicts) j
 
 pub no-answer : (b c : Bool) → b ≡ c → Decides (not b) (c ≡ false)
 no-answer b c e = record { yes = λ h. sym e ∙ not-true b h; no = λ h. ap not (e ∙ h) }
@@ -102,38 +107,39 @@ rest-on b k n e h t q =
     subst (λ (x : ℕ). Decides t (drop (5 + x) b ≡ replicate (1275 - x) 0)) e (decides-by (q ∙ ap (each 0) u) (stretch-is 0 (drop (5 + k) b) (1275 - k) l))
 
 -- the message that was read off
-pub read-off : (ours partners b : List ℕ) (k n : ℕ) (t : Bool) → k ≡ numberAt 3 b → n ≡ numberAt 1 b → Decides t (Proper ours partners (waiting n (take (5 + k - 5) (drop 5 b)))) → Decides t (Proper ours partners (waitingOf b))
-read-off ours partners b k n t e f d =
-    let z : 5 + k - 5 ≡ numberAt 3 b = omega (arith, e) in
-    let w : waiting n (take (5 + k - 5) (drop 5 b)) ≡ waitingOf b = λ i. waiting (f i) (take (z i) (drop 5 b)) in
-    subst (λ (m : Waiting). Decides t (Proper ours partners m)) w d
+pub read-off : (ours partners b s : List ℕ) (n : ℕ) (t : Bool) → n ≡ numberAt 1 b → s ≡ waitingOf b .text → Decides t (Proper ours partners (waiting n s)) → Decides t (Proper ours partners (waitingOf b))
+read-off ours partners b s n t e f d = subst (λ (m : Waiting). Decides t (Proper ours partners m)) (λ i. waiting (e i) (f i)) d
 
 -- A PLACE
 
-module _ (ours partners b : List ℕ) where
-  -- one whose first byte is 0 can only be free
-  pub free-is : length b ≡ 1280 → getD b 0 0 ≡ 0 → (t : Bool) → t ≡ each 0 b → Decides t (WellFormed ours partners b)
-  free-is n z t e =
+module _ (b : List ℕ) where
+  module _ (n : length b ≡ 1280) (t : Bool) (e : t ≡ each 0 b) where
+    pub is-empty : t ≡ true → Shows b Empty
+    is-empty y = decides-by e (stretch-is 0 b 1280 n) .yes y
+
+    -- one whose first byte is 0 can only be free
+    pub not-empty : getD b 0 0 ≡ 0 → t ≡ false → Shows b Broken
+    not-empty z f ours partners w =
+        ⊎-elim (λ p. false≢true (sym f ∙ decides-by e (stretch-is 0 b 1280 n) .no p))
+        (λ u. absurd (let q : getD b 0 0 ≡ 1 = ap (λ (x : List ℕ). getD x 0 0) (u .1) in omega (arith, q, z)))
+        w
+
+  -- one whose first byte is another is that of a message; what is not shaped is none
+  pub not-shaped : (getD b 0 0 ≡ 0 → ⊥) → (Shaped b → ⊥) → Shows b Broken
+  not-shaped z n ours partners w = ⊎-elim (λ p. z (ap (λ (x : List ℕ). getD x 0 0) p)) (λ u. n (used-shaped ours partners b u)) w
+
+  pub is-shaped : length b ≡ 1280 → getD b 2 0 < 256 → getD b 4 0 < 256 → Shaped b → Shows b Message
+  is-shaped n lo lu s = (sym (shaped-bytes b n lo lu s), s .short)
+
+  -- and what is, is well formed where its message is proper
+  pub message-is : (ours partners : List ℕ) → b ≡ waitingBytes (waitingOf b) → (t : Bool) → Decides t (Proper ours partners (waitingOf b)) → Decides t (WellFormed ours partners b)
+  message-is ours partners e t =
       decides-as
-      (λ p. inl p)
-      (λ w. ⊎-elim (λ p. p) (λ u. absurd (let q : getD b 0 0 ≡ 1 = ap (λ (x : List ℕ). getD x 0 0) (u .1) in omega (arith, q, z))) w)
-      (decides-by e (stretch-is 0 b 1280 n))
-
-  -- one whose first byte is another is that of a message
-  used-is : (getD b 0 0 ≡ 0 → ⊥) → (t : Bool) → Decides t (Used ours partners b) → Decides t (WellFormed ours partners b)
-  used-is z t = decides-as (λ u. inr u) (λ w. ⊎-elim (λ p. absurd (z (ap (λ (x : List ℕ). getD x 0 0) p))) (λ u. u) w)
-
-  -- and one that is not shaped is none
-  pub not-shaped : (getD b 0 0 ≡ 0 → ⊥) → (Shaped b → ⊥) → Decides false (WellFormed ours partners b)
-  not-shaped z n = used-is z false (record { yes = λ e. absurd (false≢true e); no = λ u. absurd (n (used-shaped ours partners b u)) })
-
-  pub message-is : length b ≡ 1280 → getD b 2 0 < 256 → getD b 4 0 < 256 → Shaped b → (t : Bool) → Decides t (Proper ours partners (waitingOf b)) → Decides t (WellFormed ours partners b)
-  message-is n lo lu s t d =
-      used-is (λ z. omega (arith, z, s .first)) t
-      (decides-as
-      (λ p. (waitingOf b, sym (shaped-bytes b n lo lu s), p))
+      (λ p. inr (waitingOf b, e, p))
+      (λ w.
+      ⊎-elim (λ p. absurd (false≢true (sym (ap free e) ∙ ap free p)))
       (λ u. subst (Proper ours partners) (sym (ap waitingOf (u .1) ∙ waiting-back (u .0))) (u .2))
-      d)
+      w)
 
 -- WHAT A WELL FORMED PLACE GIVES
 

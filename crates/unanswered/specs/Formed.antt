@@ -1,6 +1,6 @@
 -- The 16 places, one after the other.
 use mathlib.Core.Path.{_≡_, refl, sym, ap, _∙_, subst}
-use mathlib.Core.Logic.{_⊎_, ⊎-elim}
+use mathlib.Core.Logic.{_⊎_, inl, ⊎-elim}
 use mathlib.Core.Bool.{Bool, true, false, not, _&&_, false≢true}
 use mathlib.Core.List.{List}
 use Prim.Native.Nat.{ℕ, _+_, _-_, _*_, _≤_, _<_}
@@ -11,9 +11,12 @@ use lib.Seq.{getD-take, getD-drop, length-take-le}
 use lib.Dec.{eqb}
 use borrow.Author.Tests.{not-true, eq-eqb, ne-eqb}
 use Rattle.scan.specs.Bools.{known, Decides, decides-as, equals}
-use Rattle.places.specs.Below.{Below}
+use Rattle.places.specs.Below.{Below, one-more}
 use Rattle.places.specs.Bytes.{numberAt}
-use Rattle.unanswered.specs.Waiting.{waitingOf, WellFormed, place, free, Apart, UnansweredFormed, hasNumber}
+use Rattle.unanswered.specs.declared.Shown.{Shown}
+use Rattle.unanswered.specs.declared.Shown.the-variants.{Broken, Empty, Message}
+use Rattle.unanswered.specs.Waiting.{waitingOf, Proper, place, free, Apart, FormedAt, Shows, ShowsAt, UnansweredFormed, hasNumber}
+use Rattle.unanswered.specs.Deciding.{message-is}
 
 -- the first byte of a place is the one where it starts
 pub first-at : (t : List ℕ) (i : ℕ) → getD (place i t) 0 0 ≡ getD t (i * 1280) 0
@@ -47,20 +50,40 @@ pub on-places : (t : List ℕ) (i j : ℕ) {b : Bool} → Decides b (Apart (take
 on-places t i j {b} d =
     subst (λ (x : List ℕ). Decides b (Apart x (place j t))) (lent t i) (subst (λ (y : List ℕ). Decides b (Apart (take (i * 1280 + 1280 - i * 1280) (drop (i * 1280) t)) y)) (lent t j) d)
 
--- and of one
-pub on-place : (ours partners t : List ℕ) (i : ℕ) {b : Bool} → Decides b (WellFormed ours partners (take (i * 1280 + 1280 - i * 1280) (drop (i * 1280) t))) → Decides b (WellFormed ours partners (place i t))
-on-place ours partners t i {b} d = subst (λ (x : List ℕ). Decides b (WellFormed ours partners x)) (lent t i) d
+-- ONE, beside the lower ones
+
+shows-beside : (t : List ℕ) (i : ℕ) (l : Shown) → Below (λ j. Apart (place j t) (place i t)) i → Shows (place i t) l → ShowsAt t i l
+shows-beside t i Broken r n = λ ours partners f. n ours partners (f .0)
+shows-beside t i Empty r p = (p, r)
+shows-beside t i Message r p = (p, r)
+
+pub on-place : (t : List ℕ) (i : ℕ) (l : Shown) → Below (λ j. Apart (place j t) (place i t)) i → Shows (take (i * 1280 + 1280 - i * 1280) (drop (i * 1280) t)) l → ShowsAt t i l
+on-place t i l r p = shows-beside t i l r (subst (λ (x : List ℕ). Shows x l) (lent t i) p)
+
+module _ (ours partners t : List ℕ) (i : ℕ) where
+  pub broken-at : ShowsAt t i Broken → Decides false (FormedAt ours partners t i)
+  broken-at n = record { yes = λ e. absurd (false≢true e); no = λ f. absurd (n ours partners f) }
+
+  pub empty-at : ShowsAt t i Empty → Decides true (FormedAt ours partners t i)
+  empty-at p = record { yes = λ e. (inl (p .0), p .1); no = λ f. refl }
+
+  pub proper-at : ShowsAt t i Message → (b : Bool) → Decides b (Proper ours partners (waitingOf (place i t))) → Decides b (FormedAt ours partners t i)
+  proper-at p b d = decides-as (λ w. (w, p .1)) (λ f. f .0) (message-is (place i t) ours partners (p .0 .0) b d)
 
 -- ALL OF THEM
 
 pub wrong-length : (ours partners t : List ℕ) → (length t ≡ 20480 → ⊥) → Decides false (UnansweredFormed ours partners t)
 wrong-length ours partners t n = record { yes = λ e. absurd (false≢true e); no = λ f. absurd (n (f .whole)) }
 
-pub unanswered-is : (ours partners t : List ℕ) → length t ≡ 20480 → (b : Bool) → Decides b (Below (λ i. WellFormed ours partners (place i t) × Below (λ j. Apart (place j t) (place i t)) i) 16) → Decides b (UnansweredFormed ours partners t)
+pub unanswered-is : (ours partners t : List ℕ) → length t ≡ 20480 → (b : Bool) → Decides b (Below (FormedAt ours partners t) 16) → Decides b (UnansweredFormed ours partners t)
 unanswered-is ours partners t n b =
     decides-as
     (λ p. record { whole = n; each = λ i h. p i h .0; numbers = λ i h. p i h .1 })
     (λ f i h. (f .each i h, f .numbers i h))
+
+-- one after the other
+pub one-further : (Q : ℕ → Type 0) (i : ℕ) → Below Q i → Q i → Below Q (i + 1)
+one-further Q i p q = one-more Q i true true (record { yes = λ e. p; no = λ e. refl }) (record { yes = λ e. q; no = λ e. refl }) .yes refl
 
 -- A NUMBER, test by test
 pub number-is : (b : List ℕ) (k n : ℕ) → k ≡ waitingOf b .number → not (eqb (getD b 0 0) 0) && eqb k n ≡ hasNumber n b

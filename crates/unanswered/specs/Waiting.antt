@@ -12,8 +12,11 @@ use Rattle.message.specs.declared.Verdict.the-variants.{Read}
 use Rattle.message.specs.declared.Record.{Record}
 use Rattle.message.specs.Reading.{Judged, cut}
 use Rattle.places.specs.declared.Place.{Place}
+use Rattle.places.specs.Below.{Below}
 use Rattle.places.specs.Search.{firstFrom}
 use Rattle.places.specs.Bytes.{high, low, numberAt}
+use Rattle.unanswered.specs.declared.Shown.{Shown}
+use Rattle.unanswered.specs.declared.Shown.the-variants.{Broken, Empty, Message}
 
 -- a message that waits for its answer
 pub record Waiting : Type 0 where
@@ -77,6 +80,23 @@ free b = eqb (getD b 0 0) 0
 -- not both used with one number
 abbrev pub Apart : List ℕ → List ℕ → Type 0
 Apart a b = free a ≡ false → free b ≡ false → waitingOf a .number ≡ waitingOf b .number → ⊥
+
+-- place i is well formed, and shares its number with no lower one
+abbrev pub FormedAt : List ℕ → List ℕ → List ℕ → ℕ → Type 0
+FormedAt ours partners t i = WellFormed ours partners (place i t) × Below (λ j. Apart (place j t) (place i t)) i
+
+-- WHAT A PLACE SHOWS beside its text: it is well formed under no names; it is free; or it is that of a message, if that is
+-- proper
+abbrev pub Shows : List ℕ → Shown → Type 0
+Shows b Broken = (ours partners : List ℕ) → WellFormed ours partners b → ⊥
+Shows b Empty = (b ≡ freeBytes)
+Shows b Message = (b ≡ waitingBytes (waitingOf b)) × (numberAt 3 b ≤ 1275)
+
+-- and beside the lower ones
+abbrev pub ShowsAt : List ℕ → ℕ → Shown → Type 0
+ShowsAt t i Broken = (ours partners : List ℕ) → FormedAt ours partners t i → ⊥
+ShowsAt t i Empty = Shows (place i t) Empty × Below (λ j. Apart (place j t) (place i t)) i
+ShowsAt t i Message = Shows (place i t) Message × Below (λ j. Apart (place j t) (place i t)) i
 
 -- no two unanswered share a number
 pub record UnansweredFormed (ours partners t : List ℕ) : Type 0 where

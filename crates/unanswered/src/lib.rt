@@ -4,13 +4,22 @@ ghost use Prim.Native.Nat.{_+_, _*_, _≤_, _<_};
 ghost use lib.ListN.{length};
 ghost use Rattle.scan.specs.Bools.{Decides};
 ghost use Rattle.splice.specs.Splice.{splice as spliced};
-ghost use Rattle.message.specs.Reading.{cut};
+ghost use Rattle.message.specs.declared.Verdict.{Verdict};
+ghost use Rattle.message.specs.Reading.{Judged, cut};
 ghost use Rattle.places.specs.Below.{Below};
 ghost use Rattle.places.specs.Bytes.{numberAt};
-ghost use Rattle.unanswered.specs.Waiting.{waiting, waitingBytes, freeBytes, waitingOf, isAnswer, Proper, WellFormed, place, Apart, UnansweredFormed, hasNumber, found, lowestFree};
+ghost use Rattle.unanswered.specs.Waiting.{waiting, waitingBytes, freeBytes, waitingOf, isAnswer, Proper, place, Apart, FormedAt, Shows, ShowsAt, UnansweredFormed, hasNumber, found, lowestFree};
 use message::Kind;
+use message::Record;
 use places::Place;
 use scan::Span;
+
+// What a place shows beside its text: it is not well formed, it is free, or it has the shape of a message.
+pub enum Shown {
+    Broken,
+    Empty,
+    Message,
+}
 
 // Whether a type answers; no message is none to wait for.
 pub fn is_answer(k: Kind) -> bool
@@ -42,43 +51,29 @@ fn is_part(s: &[u8], p: Span, name: &[u8]) -> bool
     places::same(&s[at..end], name)
 }
 
-// Whether a text may wait for its answer, with a number beside it. What is refused has the record of no message.
-fn is_proper(s: &[u8], n: usize, ours: &[u8], partners: &[u8]) -> bool
-    ensures { λ r. ⌜ Decides r (Proper (now (ours .entry)) (now (partners .entry)) (waiting n (now (s .entry)))) ⌝ }
-{
-    let q = message::read(s);
-    let its = q.record;
-    let k = its.kind;
-    let f = its.figures;
-    let p = its.parts;
-    let u = p.number;
-    !is_answer(k)
-        & (f.number == n)
-        & (n <= 999)
-        & is_part(s, u.sender, ours)
-        & is_part(s, u.receiver, partners)
-}
-
-// Whether a place is well formed. Only what has the shape of a message is read.
-fn is_waiting(b: &[u8], ours: &[u8], partners: &[u8]) -> bool
+// A place by itself.
+fn look_at_place(b: &[u8]) -> Shown
     requires { ⌜ length (now b) ≡ 1280 ⌝ }
-    ensures { λ r. ⌜ Decides r (WellFormed (now (ours .entry)) (now (partners .entry)) (now (b .entry))) ⌝ }
+    ensures { λ r. ⌜ Shows (now (b .entry)) r ⌝ }
 {
     if b[0] == 0 {
-        return places::all_are(b, 0);
+        if places::all_are(b, 0) {
+            return Shown::Empty;
+        }
+        return Shown::Broken;
     }
     if b[0] != 1 {
-        return false;
+        return Shown::Broken;
     }
     let n = places::number_at(b, 3);
     if 1275 < n {
-        return false;
+        return Shown::Broken;
     }
     let e = 5 + n;
     if !places::all_are(&b[e..], 0) {
-        return false;
+        return Shown::Broken;
     }
-    is_proper(&b[5..e], places::number_at(b, 1), ours, partners)
+    Shown::Message
 }
 
 // Whether two places are not both used with one number.
@@ -111,16 +106,73 @@ fn apart_from_lower(t: &[u8], i: usize) -> bool
     ok
 }
 
+// Place i, beside the lower ones.
+pub fn look(t: &[u8], i: usize) -> Shown
+    requires { ⌜ (length (now t) ≡ 20480) × (i < 16) ⌝ }
+    ensures { λ r. ⌜ ShowsAt (now (t .entry)) i r ⌝ }
+{
+    if !apart_from_lower(t, i) {
+        return Shown::Broken;
+    }
+    let a = i * 1280;
+    look_at_place(&t[a..a + 1280])
+}
+
+// The text of place i.
+pub fn text(t: &[u8], i: usize) -> &[u8]
+    requires { ⌜ (length (now t) ≡ 20480) × (i < 16) × (numberAt 3 (place i (now t)) ≤ 1275) ⌝ }
+    ensures { λ r. ⌜ now r ≡ waitingOf (place i (now (t .entry))) .text ⌝ }
+{
+    let a = i * 1280;
+    let b = &t[a..a + 1280];
+    let e = 5 + places::number_at(b, 3);
+    &b[5..e]
+}
+
+// Whether the text of place i, with its record, may wait for its answer. What is refused has the record of no message.
+pub fn is_proper(t: &[u8], i: usize, its: Record, ours: &[u8], partners: &[u8]) -> bool
+    requires { ⌜ (length (now t) ≡ 20480) × (i < 16) × (numberAt 3 (place i (now t)) ≤ 1275) × ((v : Verdict) × Judged (waitingOf (place i (now t)) .text) v its) ⌝ }
+    ensures { λ r. ⌜ Decides r (Proper (now (ours .entry)) (now (partners .entry)) (waitingOf (place i (now (t .entry))))) ⌝ }
+{
+    let s = text(t, i);
+    let a = i * 1280;
+    let n = places::number_at(&t[a..a + 1280], 1);
+    let k = its.kind;
+    let f = its.figures;
+    let p = its.parts;
+    let u = p.number;
+    !is_answer(k)
+        & (f.number == n)
+        & (n <= 999)
+        & is_part(s, u.sender, ours)
+        & is_part(s, u.receiver, partners)
+}
+
+// Whether place i is well formed and apart from the lower ones. Only what has the shape of a message is read.
+fn is_formed(t: &[u8], i: usize, ours: &[u8], partners: &[u8]) -> bool
+    requires { ⌜ (length (now t) ≡ 20480) × (i < 16) ⌝ }
+    ensures { λ r. ⌜ Decides r (FormedAt (now (ours .entry)) (now (partners .entry)) (now (t .entry)) i) ⌝ }
+{
+    let l = look(t, i);
+    match l {
+        Shown::Broken => false,
+        Shown::Empty => true,
+        Shown::Message => {
+            let q = message::read(text(t, i));
+            is_proper(t, i, q.record, ours, partners)
+        }
+    }
+}
+
 // Whether every place is well formed and apart from the others.
 fn places_formed(t: &[u8], ours: &[u8], partners: &[u8]) -> bool
     requires { ⌜ length (now t) ≡ 20480 ⌝ }
-    ensures { λ r. ⌜ Decides r (Below (λ i. WellFormed (now (ours .entry)) (now (partners .entry)) (place i (now (t .entry))) × Below (λ j. Apart (place j (now (t .entry))) (place i (now (t .entry)))) i) 16) ⌝ }
+    ensures { λ r. ⌜ Decides r (Below (FormedAt (now (ours .entry)) (now (partners .entry)) (now (t .entry))) 16) ⌝ }
 {
     let mut ok = true;
     let mut i = 0;
     while i < 16 {
-        let a = i * 1280;
-        ok = ok & (is_waiting(&t[a..a + 1280], ours, partners) & apart_from_lower(t, i));
+        ok = ok & is_formed(t, i, ours, partners);
         i += 1;
     }
     ok
@@ -173,17 +225,6 @@ pub fn lowest_free(t: &[u8]) -> Place
         i += 1;
     }
     Place::Nowhere
-}
-
-// The text of place i.
-pub fn text(t: &[u8], i: usize) -> &[u8]
-    requires { ⌜ (length (now t) ≡ 20480) × (i < 16) × (numberAt 3 (place i (now t)) ≤ 1275) ⌝ }
-    ensures { λ r. ⌜ now r ≡ waitingOf (place i (now (t .entry))) .text ⌝ }
-{
-    let a = i * 1280;
-    let b = &t[a..a + 1280];
-    let e = 5 + places::number_at(b, 3);
-    &b[5..e]
 }
 
 // Makes place i free.

@@ -3,7 +3,7 @@ use mathlib.Core.Path.{_≡_, refl, sym, _∙_, ap, subst, fun-ext}
 use mathlib.Core.Logic.{_⊎_, inl, inr, ⊎-elim, _≢_}
 use mathlib.Core.Bool.{Bool, true, false, cond, not, _&&_, _||_}
 use mathlib.Core.Option.{Option, none, some}
-use mathlib.Core.List.{List, [], _∷_, _++_}
+use mathlib.Core.List.{List, _∷_, _++_}
 use Prim.Native.Nat.{ℕ, _+_, _≤_, _<_}
 use native.Mathlib.Nat.{add-zero}
 use native.Mathlib.Numerals.{add-one}
@@ -14,10 +14,8 @@ use lib.Seq.{set-split, getD-set-same, getD-set-other}
 use lib.Dec.{eqb, ltb, leb}
 use borrow.Author.Tests.{eqb-true, ltb-true, ltb-false, leb-false, not-true, eq-eqb}
 use Rattle.scan.specs.Bools.{known, and-l, both, or-split}
-use Rattle.message.specs.declared.Kind.{Kind}
 use Rattle.message.specs.declared.Kind.the-variants.{Rla}
-use Rattle.message.specs.declared.Verdict.{Verdict}
-use Rattle.message.specs.declared.Verdict.the-variants.{Read, Refused}
+use Rattle.message.specs.declared.Verdict.the-variants.{Read}
 use Rattle.message.specs.declared.Record.{Record}
 use Rattle.message.specs.Reading.{Judged}
 use Rattle.message.specs.Reader.{verdict}
@@ -43,13 +41,13 @@ use Rattle.deeds.specs.Deeds.{deedOf, old, makes}
 use Rattle.deeds.specs.Applying.{home, allowed, decidedAt, decision, after, applied}
 use Rattle.response.specs.Answering.{answerText}
 use Rattle.memory.specs.End.{End}
-use Rattle.rules.specs.Replies.{Refusal, Reply, refused, done, number}
+use Rattle.rules.specs.Replies.{Refusal, refused, done, number}
 use Rattle.rules.specs.Reads.{messageIn, read-message}
-use Rattle.rules.specs.Answers.{answerTo, goodAnswer, proper, isOffering, isAcceptance}
+use Rattle.rules.specs.Answers.{answerTo, goodAnswer, isOffering, isAcceptance}
 use Rattle.rules.specs.Laws.{offers, answer-value, answer-given}
 use Rattle.rules.specs.Crossing.{retires-is, retired-sent}
 use Rattle.rules.specs.Receiving as r
-use Rattle.rules.specs.Receiving.{directed, waitingAt, settledSent, settled, settle, settleHeld, settleAt, hearAnswer, retireHeld, retireAt, retired, about, given, handled, answering, hearFirst, hearAgain, hearOld, hearMessage, hear, receiveBy, receive}
+use Rattle.rules.specs.Receiving.{directed, waitingAt, settledSent, settled, retireHeld, retireAt, retired, given, answering, hearFirst, hearAgain, hearOld, hearMessage, receive}
 use Rattle.rules.specs.Sending.{countWaiting, making}
 use Rattle.kinds.specs.Tools.{upd, same?, upd-same, upd-other, true-false, none-some, some-inj}
 use Rattle.kinds.specs.Kinds.{Content, own, contentOf, messageOf, close, retires, againTo}
@@ -495,58 +493,3 @@ hear-open room w e v d a f n k y h = go k
     go : Heeded (messageIn w) e → Wants room (messageIn w) y
     go (inl p) = new-refused room (messageIn w) e y (by New p)
     go (inr p) = old-refused room (messageIn w) e y f n (p .1) (by Old (p .0))
-
--- A REFUSAL HAS A NUMBER from 1 on
-
-abbrev Numbered : Reply → Type 0
-Numbered (refused x) = 1 ≤ x .number
-Numbered (done e t) = Unit
-
-either-numbered : (b : Bool) (x y : Reply) → Numbered x → Numbered y → Numbered (cond b x y)
-either-numbered true x y p q = p
-either-numbered false x y p q = q
-
-answering-numbered : (room : ℕ) (m : Message) (v : ℕ) (e : End) → Numbered (answering room m v e)
-answering-numbered room m v e = either-numbered (leb (length (answerText m v)) room) (done e (answerText m v)) (refused (number 2)) tt (omega arith)
-
-first-numbered : (room : ℕ) (m : Message) (e : End) → Numbered (hearFirst room m e)
-unfolding hearFirst
-first-numbered room m e = answering-numbered room m (answerTo (deedOf m) (decision m (about m (retired m e)))) (handled m (retired m e))
-
-again-numbered : (room : ℕ) (m : Message) (v : ℕ) (e : End) → Numbered (hearAgain room m v e)
-unfolding hearAgain
-again-numbered room m v e = either-numbered (isFour m v) (refused (number 4)) (answering room m v e) (omega arith) (answering-numbered room m v e)
-
-message-numbered : (s : Standing) (room : ℕ) (m : Message) (e : End) → Numbered (hearMessage s room m e)
-unfolding hearMessage hearOld
-message-numbered New room m e = first-numbered room m (r.raised (m .number) e)
-message-numbered Old room m e =
-    let v : ℕ = getD (e .answers) (m .number) 0 in
-    either-numbered (eqb v 0) (hearFirst room m e) (hearAgain room m v e) (first-numbered room m e) (again-numbered room m v e)
-message-numbered Stale room m e = omega arith
-
-held-numbered : (i : ℕ) (k : Kind) (e : End) (o : Option Waiting) → Numbered (settleHeld i k e o)
-unfolding settle
-held-numbered i k e none = omega arith
-held-numbered i k e (some q) =
-    let p : Message = messageIn (q .text) in
-    either-numbered (proper k (deedOf p)) (done (settled i k p e) []) (refused (number 6)) tt (omega arith)
-
-answer-numbered : (p : Place) (k : Kind) (e : End) → Numbered (settleAt p k e)
-answer-numbered Nowhere k e = omega arith
-answer-numbered (At i) k e = held-numbered i k e (get i (e .unanswered))
-
-heard-numbered : (room : ℕ) (m : Message) (e : End) → Numbered (hear room m e)
-unfolding hear
-heard-numbered room m e =
-    let x = hearAnswer m e in
-    let y = hearMessage (standing (e .head .highest) (m .number)) room m e in
-    either-numbered (directed (e .head) m) (cond (isAnswer (m .kind)) x y) (refused (number 3)) (either-numbered (isAnswer (m .kind)) x y (answer-numbered (waitingAt (m .number) (e .unanswered)) (m .kind) e) (message-numbered (standing (e .head .highest) (m .number)) room m e)) (omega arith)
-
-received-numbered : (v : Verdict) (room : ℕ) (w : List ℕ) (e : End) → Numbered (receiveBy v room w e)
-unfolding receiveBy
-received-numbered (Refused place before) room w e = omega arith
-received-numbered Read room w e = heard-numbered room (messageIn w) e
-
-pub receive-refused : (room : ℕ) (w : List ℕ) (e : End) (x : Refusal) → receive room w e ≡ refused x → 1 ≤ x .number
-receive-refused room w e x h = subst Numbered h (received-numbered (verdict w) room w e)

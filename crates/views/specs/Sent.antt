@@ -3,7 +3,7 @@ use mathlib.Core.Path.{_≡_, refl, sym, _∙_, ap, subst}
 use mathlib.Core.Bool.{Bool, true, false, cond, not, _&&_, _||_, false≢true}
 use mathlib.Core.Option.{Option, none, some}
 use mathlib.Core.List.{List}
-use Prim.Native.Nat.{ℕ, zero, suc, _+_, _%_, _≤_, _<_}
+use Prim.Native.Nat.{ℕ, zero, suc, _+_, _%_, _<_}
 use native.Mathlib.Omega.{arith}
 use lib.ListN.{length, getD, replicate}
 use lib.Dec.{eqb, leb}
@@ -214,46 +214,6 @@ resend-seen room n e e′ t r = from (waitingAt n (e .unanswered)) refl r
     from : (p : Place) → waitingAt n (e .unanswered) ≡ p → resendAt p room e ≡ done e′ t → Resends n e e′ t
     from (At i) a p = held i a (get i (e .unanswered)) refl p
     from Nowhere a p = absurd (refused-done p)
-
--- REFUSALS have numbers from 1 on
-
-refused-by : (k : ℕ) (x : Refusal) → 1 ≤ k → refused (number k) ≡ refused x → 1 ≤ x .number
-refused-by k x h p = let z : number k ≡ x = cc in subst (λ (y : Refusal). 1 ≤ y .number) z h
-
-checked : (b : Bool) (k : ℕ) (r : Reply) (x : Refusal) → 1 ≤ k → (r ≡ refused x → 1 ≤ x .number) → cond b (refused (number k)) r ≡ refused x → 1 ≤ x .number
-checked true k r x h f p = refused-by k x h p
-checked false k r x h f p = f p
-
-giving-refused : (room : ℕ) (t : List ℕ) (e : End) (x : Refusal) → giving room t e ≡ refused x → 1 ≤ x .number
-giving-refused room t e x p = go (leb (length t) room) p
-  where
-    go : (b : Bool) → cond b (done e t) (refused (number 2)) ≡ refused x → 1 ≤ x .number
-    go true q = absurd (refused-done (sym q))
-    go false q = refused-by 2 x (omega arith) q
-
-refused-at : (p : Place) (room : ℕ) (w : List ℕ) (m : Message) (e : End) (x : Refusal) → sendAt p room w m e ≡ refused x → 1 ≤ x .number
-unfolding sendAt
-refused-at Nowhere room w m e x s = refused-by 8 x (omega arith) s
-refused-at (At i) room w m e x s =
-    checked (anyWaiting (tooOld (e .head .next)) (e .unanswered)) 9 _ x (omega arith)
-    (checked (anyWaiting (naming m) (e .unanswered)) 7 _ x (omega arith)
-    (checked (not (mayBeSent m e)) 10 _ x (omega arith)
-    (checked (fills m e) 11 _ x (omega arith) (giving-refused room w (sending i w m e) x))))
-    s
-
-pub send-refused : (room : ℕ) (w : List ℕ) (e : End) (x : Refusal) → send room w e ≡ refused x → 1 ≤ x .number
-send-refused room w e x s = refused-at (lowestFree (e .unanswered)) room w (messageIn w) e x s
-
-pub resend-refused : (room n : ℕ) (e : End) (x : Refusal) → resend room n e ≡ refused x → 1 ≤ x .number
-resend-refused room n e x r = from (waitingAt n (e .unanswered)) r
-  where
-    held : (o : Option Waiting) → resendHeld o room e ≡ refused x → 1 ≤ x .number
-    held none p = refused-by 5 x (omega arith) p
-    held (some q) p = giving-refused room (q .text) e x p
-
-    from : (p : Place) → resendAt p room e ≡ refused x → 1 ≤ x .number
-    from (At i) p = held (get i (e .unanswered)) p
-    from Nowhere p = refused-by 5 x (omega arith) p
 
 -- A FRESH END
 

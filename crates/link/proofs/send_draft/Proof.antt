@@ -9,7 +9,7 @@ send-text-requires c κs =
     let q = c .before .before .before in
     let s = q .before .before .before .before .before .before in
     let h = s .pre in
-    (kept-read (s .args .w .now) (q .read .result .verdict) (q .read .result .record) (h .0) (q .read .ensures), h .1, h .2, h .3, h .4)
+    (kept-read (s .args .w .now) (q .read .result .verdict) (q .read .result .record) (h .0) (q .read .ensures), h .1, h .2, h .3)
 
 returns : tie.Need-returns
 returns c = c .before .before .before .before .before .before .send-text .ensures

@@ -6,7 +6,7 @@ use lib.ListN.{length, take, drop}
 use Rattle.unanswered.specs.Waiting.{waitingOf, place}
 use Rattle.unanswered.specs.Formed.{lent-long}
 use Rattle.rules.specs.Sending.{tooOld}
-use Rattle.sending.specs.Asked.{free-has-none, used-has, number-most, lent-number, is-old}
+use Rattle.sending.specs.Asked.{first-free, first-used, free-has-none, used-has, number-most, lent-number, is-old}
 use Rattle.sending.proofs.is_old.Statement.{statement}
 use Rattle.sending.proofs.is_old.Tie as tie
 
@@ -17,7 +17,7 @@ shared-slice-read-if1 : tie.Need-shared-slice-read-if1
 shared-slice-read-if1 c = omega (arith, c .before .before .pre .1, c .before .before .pre .0 .formed .whole)
 
 returns : tie.Need-returns
-returns c = let a = c .before .before .before .args in free-has-none (tooOld (a .next)) (a .u .now) (a .i) (c .if1 .taken)
+returns c = let a = c .before .before .before .args in free-has-none (tooOld (a .next)) (a .u .now) (a .i) (first-free (a .u .now) (a .i) (c .if1 .taken))
 
 add-number-at : tie.Need-add-number-at
 add-number-at c = omega (arith, c .before .before .before .pre .1)
@@ -42,7 +42,7 @@ returns-2 : tie.Need-returns-2
 returns-2 c =
     let s = c .before .before .before .before .before in
     let a = s .args in
-    used-has (tooOld (a .next)) (a .u .now) (a .i) (c .before .before .if1 .left) _ (is-old (a .next) _ (waitingOf (place (a .i) (a .u .now))) (lent-number (a .u .now) (a .i) _ (c .number-at .ensures)))
+    used-has (tooOld (a .next)) (a .u .now) (a .i) (first-used (a .u .now) (a .i) (c .before .before .if1 .left)) _ (is-old (a .next) _ (waitingOf (place (a .i) (a .u .now))) (lent-number (a .u .now) (a .i) _ (c .number-at .ensures)))
 
 pub is-old-spec : {M : Type 1} → statement M
 is-old-spec =

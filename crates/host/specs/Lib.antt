@@ -1,0 +1,5 @@
+pub mod Head
+pub mod Written
+pub mod Calls
+pub mod Ways
+pub mod Kept

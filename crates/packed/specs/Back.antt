@@ -1,0 +1,96 @@
+-- What was packed comes back, and has 246 bytes.
+use mathlib.Core.Path.{_≡_, refl, sym, ap, _∙_, fun-ext}
+use mathlib.Core.Bool.{Bool, true, cond, _&&_}
+use mathlib.Core.List.{List, [], _∷_, _++_}
+use Prim.Native.Nat.{ℕ, _+_, _*_, _≤_}
+use native.Mathlib.Omega.{arith}
+use lib.ListN.{length, getD}
+use lib.Dec.{leb}
+use Rattle.message.specs.declared.Kind.{Kind}
+use Rattle.message.specs.declared.Kind.the-variants.{None, Fpl, Cpl, Est, Chg, Cnl, Rti, Rta, Rla, Lam, Lrm}
+use Rattle.message.specs.declared.LevelKind.{LevelKind}
+use Rattle.message.specs.declared.LevelKind.the-variants.{Absent, FlightLevel, Altitude, MetricLevel, MetricAltitude, Vfr}
+use Rattle.message.specs.declared.PointForm.{PointForm}
+use Rattle.message.specs.declared.PointForm.the-variants.{NoPoint, Name, Bearing, Degrees, Minutes}
+use Rattle.message.specs.declared.Record.{Record}
+use Rattle.packed.specs.Numbers.{bytesIn, Small, bytes-long, held-back}
+use Rattle.packed.specs.Packed.{kindNumber, levelNumber, formNumber, kindIn, levelKindIn, formIn, numbersOf, packedOf, known, kindBy, recordBy, recordIn}
+
+pub packed-long : (r : Record) → length (packedOf r) ≡ 246
+unfolding packedOf
+packed-long r = bytes-long (numbersOf r)
+
+kind-back : (k : Kind) → kindIn (kindNumber k) ≡ k
+kind-back None = refl
+kind-back Fpl = refl
+kind-back Cpl = refl
+kind-back Est = refl
+kind-back Chg = refl
+kind-back Cnl = refl
+kind-back Rti = refl
+kind-back Rta = refl
+kind-back Rla = refl
+kind-back Lam = refl
+kind-back Lrm = refl
+
+level-back : (k : LevelKind) → levelKindIn (levelNumber k) ≡ k
+level-back Absent = refl
+level-back FlightLevel = refl
+level-back Altitude = refl
+level-back MetricLevel = refl
+level-back MetricAltitude = refl
+level-back Vfr = refl
+
+form-back : (k : PointForm) → formIn (formNumber k) ≡ k
+form-back NoPoint = refl
+form-back Name = refl
+form-back Bearing = refl
+form-back Degrees = refl
+form-back Minutes = refl
+
+level-known : (k : LevelKind) → leb (levelNumber k) 5 ≡ true
+level-known Absent = refl
+level-known FlightLevel = refl
+level-known Altitude = refl
+level-known MetricLevel = refl
+level-known MetricAltitude = refl
+level-known Vfr = refl
+
+form-known : (k : PointForm) → leb (formNumber k) 4 ≡ true
+form-known NoPoint = refl
+form-known Name = refl
+form-known Bearing = refl
+form-known Degrees = refl
+form-known Minutes = refl
+
+known-back : (r : Record) → known (λ k. getD (numbersOf r) k 0) ≡ true
+unfolding known
+known-back r =
+    let a = level-known (r .figures .own .level .kind) in
+    let b = form-known (r .figures .form) in
+    let c = level-known (r .figures .crossing .kind) in
+    let d = level-known (r .figures .second .kind) in
+    let e = level-known (r .figures .changes .level .kind) in
+    λ i. (((a i && b i) && c i) && d i) && e i
+
+numbers-back : (r : Record) → recordBy (λ k. getD (numbersOf r) k 0) ≡ r
+unfolding recordBy kindBy
+numbers-back r = λ i. record {
+  kind = (ap (λ (b : Bool). cond b (kindIn (kindNumber (r .kind))) None) (known-back r) ∙ kind-back (r .kind)) i;
+  parts = r .parts;
+  figures = record {
+    number = r .figures .number;
+    reference = r .figures .reference;
+    own = record { count = r .figures .own .count; level = record { kind = level-back (r .figures .own .level .kind) i; figure = r .figures .own .level .figure } };
+    form = form-back (r .figures .form) i;
+    crossing = record { kind = level-back (r .figures .crossing .kind) i; figure = r .figures .crossing .figure };
+    second = record { kind = level-back (r .figures .second .kind) i; figure = r .figures .second .figure };
+    changes = record { count = r .figures .changes .count; level = record { kind = level-back (r .figures .changes .level .kind) i; figure = r .figures .changes .level .figure } };
+    reason = r .figures .reason;
+  };
+}
+
+-- THE RECORD COMES BACK whose numbers fit two bytes
+pub packed-back : (r : Record) → Small (numbersOf r) → recordIn (packedOf r) ≡ r
+unfolding packedOf
+packed-back r s = ap recordBy (fun-ext (held-back (numbersOf r) s)) ∙ numbers-back r

@@ -1,0 +1,53 @@
+-- Numbers that are written one behind the other.
+use mathlib.Core.Path.{_≡_, refl, sym, ap, _∙_, subst}
+use mathlib.Core.List.{List, [], _∷_, _++_}
+use Prim.Native.Nat.{ℕ, _+_, _*_, _≤_}
+use native.Mathlib.Omega.{arith}
+use lib.ListN.{length, drop, set, length-set, length-append}
+use Rattle.message.specs.declared.Record.{Record}
+use Rattle.places.specs.Bytes.{high, low}
+use Rattle.splice.specs.Splice.{splice, Spliced}
+use Rattle.splice.specs.Splicing as s
+use Rattle.splice.specs.Inside.{set-splice}
+use Rattle.packed.specs.Numbers.{bytesIn, bytes-long, bytes-join}
+use Rattle.packed.specs.Packed.{numbersOf, packedOf}
+
+-- the numbers ns were written over d from the k-th on, which made it e, and next is the place behind them
+pub record Puts (k : ℕ) (ns d e : List ℕ) (next : ℕ) : Type 0 where
+  pub bytes : e ≡ splice (2 * k) (bytesIn ns) d
+  pub place : next ≡ k + length ns
+  pub long : length e ≡ length d
+
+pub spliced : {k n : ℕ} {ns d e : List ℕ} → Puts k ns d e n → Spliced (2 * k) (bytesIn ns) d e (2 * n)
+spliced {k} {n} {ns} p = record { bytes = p .bytes; place = omega (arith, p .place, bytes-long ns) }
+
+-- ns were written, and then ks right behind them: both were written
+pub then : {k m n : ℕ} {ns ks d e f : List ℕ} → Puts k ns d e m → Puts m ks e f n → 2 * n ≤ length d → Puts k (ns ++ ks) d f n
+then {k} {m} {n} {ns} {ks} {d} {e} {f} p q h =
+    let t : Spliced (2 * k) (bytesIn ns ++ bytesIn ks) d f (2 * n) = s.then (spliced p) (spliced q) h in
+    record {
+      bytes = t .bytes ∙ ap (λ (x : List ℕ). splice (2 * k) x d) (sym (bytes-join ns ks));
+      place = omega (arith, p .place, q .place, length-append ns ks);
+      long = q .long ∙ p .long;
+    }
+
+-- one number
+pub one : (k n : ℕ) (d : List ℕ) → 2 * k + 2 ≤ length d → Puts k (n ∷ []) d (set (set d (2 * k) (low (high n))) (2 * k + 1) (low n)) (k + 1)
+unfolding bytesIn
+one k n d h =
+    let e : List ℕ = set d (2 * k) (low (high n)) in
+    let l : length e ≡ length d = length-set d (2 * k) (low (high n)) in
+    let a : Spliced (2 * k) (low (high n) ∷ []) d e (2 * k + 1) = record { bytes = set-splice d (2 * k) (low (high n)) (omega arith); place = refl } in
+    let b : Spliced (2 * k + 1) (low n ∷ []) e (set e (2 * k + 1) (low n)) (2 * k + 2) = record { bytes = set-splice e (2 * k + 1) (low n) (omega arith); place = omega arith } in
+    record { bytes = s.then a b h .bytes; place = refl; long = length-set e (2 * k + 1) (low n) ∙ l }
+
+-- of another number that is the same
+pub named : {k n m next : ℕ} {d e : List ℕ} → n ≡ m → Puts k (n ∷ []) d e next → Puts k (m ∷ []) d e next
+named {k} {n} {m} {next} {d} {e} q p = subst (λ (x : ℕ). Puts k (x ∷ []) d e next) q p
+
+-- the whole record, at the start of a buffer
+pub whole : (r : Record) (d e : List ℕ) (n : ℕ) → Puts 0 (numbersOf r) d e n → e ≡ packedOf r ++ drop 246 d
+unfolding packedOf splice
+whole r d e n p =
+    let z : 2 * 0 + length (bytesIn (numbersOf r)) ≡ 246 = omega (arith, bytes-long (numbersOf r)) in
+    p .bytes ∙ ap (λ (k : ℕ). bytesIn (numbersOf r) ++ drop k d) z

@@ -1,0 +1,196 @@
+-- THE RECORD AS A ROW OF NUMBERS, and as bytes: 123 numbers, two bytes for each, high byte first.
+--   0        the kind: 0 none, 1 FPL, 2 CPL, 3 EST, 4 CHG, 5 CNL, 6 RTI, 7 RTA, 8 RLA, 9 LAM, 10 LRM
+--   1, 7     number and reference: sender, receiver, digits
+--   13       the parts of its own fields 07 to 18: aircraft, code, rules, flight, count, model, wake, equipment, surveillance,
+--            departure, time, speed, level, route, destination, elapsed, alternate, alternate2, indicator, other
+--   53       field 14: point, over, crossing, second, sense
+--   63       the parts within field 22, in the order of 13
+--   103      sector (31), track (32), reason (an LRM's digits)
+--   109      number, reference; count, level kind, level figure of its own fields; the point's form; crossing kind, figure;
+--            second kind, figure; count, level kind, level figure of the changes; reason
+-- A part is two numbers, where it starts and how long it is.
+use mathlib.Core.Path.{_≡_, refl, sym, ap, _∙_}
+use mathlib.Core.Bool.{Bool, cond, _&&_}
+use mathlib.Core.List.{List, [], _∷_, _++_}
+use Prim.Native.Nat.{ℕ, _+_}
+use lib.Dec.{eqb, leb}
+use Rattle.scan.specs.declared.Span.{Span}
+use Rattle.changes.specs.declared.Plan.{Plan}
+use Rattle.types.specs.declared.Number.{Number}
+use Rattle.types.specs.declared.Estimate.{Estimate}
+use Rattle.types.specs.declared.Parts.{Parts}
+use Rattle.message.specs.declared.Kind.{Kind}
+use Rattle.message.specs.declared.Kind.the-variants.{None, Fpl, Cpl, Est, Chg, Cnl, Rti, Rta, Rla, Lam, Lrm}
+use Rattle.message.specs.declared.LevelKind.{LevelKind}
+use Rattle.message.specs.declared.LevelKind.the-variants.{Absent, FlightLevel, Altitude, MetricLevel, MetricAltitude, Vfr}
+use Rattle.message.specs.declared.PointForm.{PointForm}
+use Rattle.message.specs.declared.PointForm.the-variants.{NoPoint, Name, Bearing, Degrees, Minutes}
+use Rattle.message.specs.declared.Level.{Level}
+use Rattle.message.specs.declared.PlanFigures.{PlanFigures}
+use Rattle.message.specs.declared.Figures.{Figures}
+use Rattle.message.specs.declared.Record.{Record}
+use Rattle.packed.specs.Numbers.{bytesIn, held}
+
+-- WHAT IS WRITTEN
+
+abbrev pub kindNumber : Kind → ℕ
+kindNumber None = 0
+kindNumber Fpl = 1
+kindNumber Cpl = 2
+kindNumber Est = 3
+kindNumber Chg = 4
+kindNumber Cnl = 5
+kindNumber Rti = 6
+kindNumber Rta = 7
+kindNumber Rla = 8
+kindNumber Lam = 9
+kindNumber Lrm = 10
+
+abbrev pub levelNumber : LevelKind → ℕ
+levelNumber Absent = 0
+levelNumber FlightLevel = 1
+levelNumber Altitude = 2
+levelNumber MetricLevel = 3
+levelNumber MetricAltitude = 4
+levelNumber Vfr = 5
+
+abbrev pub formNumber : PointForm → ℕ
+formNumber NoPoint = 0
+formNumber Name = 1
+formNumber Bearing = 2
+formNumber Degrees = 3
+formNumber Minutes = 4
+
+abbrev pub spanNumbers : Span → List ℕ
+spanNumbers p = p .at ∷ p .len ∷ []
+
+abbrev pub numberNumbers : Number → List ℕ
+numberNumbers n = spanNumbers (n .sender) ++ spanNumbers (n .receiver) ++ spanNumbers (n .digits)
+
+abbrev pub fourNumbers : Span → Span → Span → Span → List ℕ
+fourNumbers a b c d = spanNumbers a ++ spanNumbers b ++ spanNumbers c ++ spanNumbers d
+
+abbrev pub planNumbers : Plan → List ℕ
+planNumbers p =
+    fourNumbers (p .aircraft) (p .code) (p .rules) (p .flight)
+    ++ fourNumbers (p .count) (p .model) (p .wake) (p .equipment)
+    ++ fourNumbers (p .surveillance) (p .departure) (p .time) (p .speed)
+    ++ fourNumbers (p .level) (p .route) (p .destination) (p .elapsed)
+    ++ fourNumbers (p .alternate) (p .alternate2) (p .indicator) (p .other)
+
+abbrev pub estimateNumbers : Estimate → List ℕ
+estimateNumbers e = fourNumbers (e .point) (e .over) (e .crossing) (e .second) ++ spanNumbers (e .sense)
+
+abbrev pub partsNumbers : Parts → List ℕ
+partsNumbers p =
+    numberNumbers (p .number) ++ numberNumbers (p .reference) ++ planNumbers (p .own) ++ estimateNumbers (p .estimate)
+    ++ planNumbers (p .changes) ++ spanNumbers (p .sector) ++ spanNumbers (p .track) ++ spanNumbers (p .reason)
+
+abbrev pub levelNumbers : Level → List ℕ
+levelNumbers l = levelNumber (l .kind) ∷ l .figure ∷ []
+
+abbrev pub planFigureNumbers : PlanFigures → List ℕ
+planFigureNumbers p = p .count ∷ levelNumbers (p .level)
+
+abbrev pub figureNumbers : Figures → List ℕ
+figureNumbers f =
+    (f .number ∷ f .reference ∷ []) ++ planFigureNumbers (f .own) ++ (formNumber (f .form) ∷ []) ++ levelNumbers (f .crossing)
+    ++ levelNumbers (f .second) ++ planFigureNumbers (f .changes) ++ (f .reason ∷ [])
+
+abbrev pub numbersOf : Record → List ℕ
+numbersOf r = (kindNumber (r .kind) ∷ []) ++ partsNumbers (r .parts) ++ figureNumbers (r .figures)
+
+unfoldable pub packedOf : Record → List ℕ
+packedOf r = bytesIn (numbersOf r)
+
+-- WHAT IS READ OFF
+
+abbrev pub kindIn : ℕ → Kind
+kindIn n =
+    cond (eqb n 1) Fpl (cond (eqb n 2) Cpl (cond (eqb n 3) Est (cond (eqb n 4) Chg (cond (eqb n 5) Cnl
+    (cond (eqb n 6) Rti (cond (eqb n 7) Rta (cond (eqb n 8) Rla (cond (eqb n 9) Lam (cond (eqb n 10) Lrm None)))))))))
+
+abbrev pub levelKindIn : ℕ → LevelKind
+levelKindIn n = cond (eqb n 1) FlightLevel (cond (eqb n 2) Altitude (cond (eqb n 3) MetricLevel (cond (eqb n 4) MetricAltitude (cond (eqb n 5) Vfr Absent))))
+
+abbrev pub formIn : ℕ → PointForm
+formIn n = cond (eqb n 1) Name (cond (eqb n 2) Bearing (cond (eqb n 3) Degrees (cond (eqb n 4) Minutes NoPoint)))
+
+-- f gives each number by its place, and k is the place of the first
+
+abbrev pub spanBy : (ℕ → ℕ) → ℕ → Span
+spanBy f k = record { at = f k; len = f (k + 1) }
+
+abbrev pub numberBy : (ℕ → ℕ) → ℕ → Number
+numberBy f k = record { sender = spanBy f k; receiver = spanBy f (k + 2); digits = spanBy f (k + 4) }
+
+abbrev pub planBy : (ℕ → ℕ) → ℕ → Plan
+planBy f k = record {
+  aircraft = spanBy f k;
+  code = spanBy f (k + 2);
+  rules = spanBy f (k + 4);
+  flight = spanBy f (k + 6);
+  count = spanBy f (k + 8);
+  model = spanBy f (k + 10);
+  wake = spanBy f (k + 12);
+  equipment = spanBy f (k + 14);
+  surveillance = spanBy f (k + 16);
+  departure = spanBy f (k + 18);
+  time = spanBy f (k + 20);
+  speed = spanBy f (k + 22);
+  level = spanBy f (k + 24);
+  route = spanBy f (k + 26);
+  destination = spanBy f (k + 28);
+  elapsed = spanBy f (k + 30);
+  alternate = spanBy f (k + 32);
+  alternate2 = spanBy f (k + 34);
+  indicator = spanBy f (k + 36);
+  other = spanBy f (k + 38);
+}
+
+abbrev pub estimateBy : (ℕ → ℕ) → ℕ → Estimate
+estimateBy f k = record { point = spanBy f k; over = spanBy f (k + 2); crossing = spanBy f (k + 4); second = spanBy f (k + 6); sense = spanBy f (k + 8) }
+
+abbrev pub levelBy : (ℕ → ℕ) → ℕ → Level
+levelBy f k = record { kind = levelKindIn (f k); figure = f (k + 1) }
+
+abbrev pub planFiguresBy : (ℕ → ℕ) → ℕ → PlanFigures
+planFiguresBy f k = record { count = f k; level = levelBy f (k + 1) }
+
+abbrev pub partsBy : (ℕ → ℕ) → Parts
+partsBy f = record {
+  number = numberBy f 1;
+  reference = numberBy f 7;
+  own = planBy f 13;
+  estimate = estimateBy f 53;
+  changes = planBy f 63;
+  sector = spanBy f 103;
+  track = spanBy f 105;
+  reason = spanBy f 107;
+}
+
+abbrev pub figuresBy : (ℕ → ℕ) → Figures
+figuresBy f = record {
+  number = f 109;
+  reference = f 110;
+  own = planFiguresBy f 111;
+  form = formIn (f 114);
+  crossing = levelBy f 115;
+  second = levelBy f 117;
+  changes = planFiguresBy f 119;
+  reason = f 122;
+}
+
+-- the numbers that say what a level or a point is have one of their values
+unfoldable pub known : (ℕ → ℕ) → Bool
+known f = (((leb (f 112) 5 && leb (f 114) 4) && leb (f 115) 5) && leb (f 117) 5) && leb (f 120) 5
+
+-- a type above 10 is none; and what a level or a point cannot be is in no message
+unfoldable pub kindBy : (ℕ → ℕ) → Kind
+kindBy f = cond (known f) (kindIn (f 0)) None
+
+unfoldable pub recordBy : (ℕ → ℕ) → Record
+recordBy f = record { kind = kindBy f; parts = partsBy f; figures = figuresBy f }
+
+abbrev pub recordIn : List ℕ → Record
+recordIn b = recordBy (held b)
