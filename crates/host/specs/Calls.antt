@@ -1,7 +1,7 @@
 -- WHAT THE CALLS FROM C LEAVE. Each is what the reader's, the writer's or link's call leaves on the record and the head that stand
 -- in the bytes that are lent, by document 01's numbers. Where one of these has another size, the call refuses by 12.
 use mathlib.Core.Path.{_≡_}
-use mathlib.Core.List.{List, []}
+use mathlib.Core.List.{List}
 use Prim.Native.Nat.{ℕ}
 use lib.ListN.{length}
 use Rattle.scan.specs.declared.Span.{Span}

@@ -1,5 +1,5 @@
 -- THE HEAD AS 12 BYTES, in document 01's order: our unit's name, the partner's, next number, highest number received.
-use mathlib.Core.Path.{_≡_, refl, sym, ap, _∙_}
+use mathlib.Core.Path.{_≡_, refl}
 use mathlib.Core.List.{List, [], _∷_, _++_}
 use Prim.Native.Nat.{ℕ, _+_, _*_, _≤_, _<_}
 use native.Mathlib.Omega.{arith}

@@ -16,7 +16,7 @@ use Rattle.writer.specs.declared.Writing.{Writing}
 use Rattle.writer.specs.declared.Writing.the-variants as writing
 use Rattle.writer.specs.Writing as w
 use Rattle.head.specs.declared.Head.{Head}
-use Rattle.memory.specs.End.{End, Memory, Formed, endOf}
+use Rattle.memory.specs.End.{End, Memory, endOf}
 use Rattle.unanswered.specs.Waiting.{isAnswer}
 use Rattle.flights.specs.Table.{places}
 use Rattle.rules.specs.Replies.{Reply, refused, done, number}
@@ -27,10 +27,10 @@ use Rattle.calls.specs.declared.Answer.the-variants.{Done, NotRead, NoRoom, Wro
 use Rattle.calls.specs.declared.Outcome.{Outcome}
 use Rattle.calls.specs.Calls.{refusalIn, lengthIn, Comes, Called}
 use Rattle.link.specs.Sends.{Sent}
-use Rattle.link.specs.SetUp.{Sizes, Names, SetsUp}
+use Rattle.link.specs.SetUp.{SetsUp}
 use Rattle.packed.specs.Packed.{recordIn}
 use Rattle.host.specs.Head.{headIn}
-use Rattle.host.specs.Calls.{Told, Ran, Receives, Sends, SetUp, Resent, packedBy, ReadInto, WroteFrom}
+use Rattle.host.specs.Calls.{Ran, Receives, Sends, SetUp, Resent, packedBy, ReadInto, WroteFrom}
 
 -- what is equal unless it is not
 either : (t : Bool) {A : Type 0} → Decides t A → A ⊎ (A → ⊥)
@@ -43,7 +43,7 @@ surely (inr n) k = absurd (k n)
 same-list : (a b : List ℕ) → ((a ≡ b → ⊥) → ⊥) → a ≡ b
 same-list a b = surely (either (same a b) (same-is a b))
 
-same-number : (a b : ℕ) → ((a ≡ b → ⊥) → ⊥) → a ≡ b
+pub same-number : (a b : ℕ) → ((a ≡ b → ⊥) → ⊥) → a ≡ b
 same-number a b = surely (either (eqb a b) (equals a b))
 
 -- BY WHAT A CALL ON AN END COMES TO
@@ -119,10 +119,10 @@ ran-kept : {Sized : Type 0} {P : Head → Outcome → Type 0} {b b′ : List ℕ
 ran-kept (inl z) r f g = let d = r .sized z in let x = f (d .outcome) (d .did) in (d .kept (x .0), x .1)
 ran-kept (inr z) r f g = let u = r .unsized z in (u .1, g (u .2))
 
-of-size : (b : List ℕ) (k : ℕ) → (length b ≡ k) ⊎ (length b ≡ k → ⊥)
+pub of-size : (b : List ℕ) (k : ℕ) → (length b ≡ k) ⊎ (length b ≡ k → ⊥)
 of-size b k = either (eqb (length b) k) (equals (length b) k)
 
-both-sizes : {A B : Type 0} → A ⊎ (A → ⊥) → B ⊎ (B → ⊥) → (A × B) ⊎ (A × B → ⊥)
+pub both-sizes : {A B : Type 0} → A ⊎ (A → ⊥) → B ⊎ (B → ⊥) → (A × B) ⊎ (A × B → ⊥)
 both-sizes (inl a) (inl b) = inl (a, b)
 both-sizes (inl a) (inr n) = inr (λ p. n (p .1))
 both-sizes (inr n) b = inr (λ p. n (p .0))

@@ -3,3 +3,5 @@ pub mod Written
 pub mod Calls
 pub mod Ways
 pub mod Kept
+pub mod One
+pub mod Round

@@ -1,13 +1,13 @@
 -- A head that was written over 12 bytes.
-use mathlib.Core.Path.{_≡_, refl, sym, ap, _∙_}
+use mathlib.Core.Path.{_≡_, refl, ap, _∙_}
 use mathlib.Core.List.{List, [], _∷_, _++_}
-use Prim.Native.Nat.{ℕ, _+_, _*_, _≤_}
+use Prim.Native.Nat.{ℕ, _+_, _≤_}
 use native.Mathlib.Omega.{arith}
-use lib.ListN.{length, drop, drop-of-length-le, length-append}
+use lib.ListN.{length, drop-of-length-le}
 use Rattle.head.specs.declared.Head.{Head}
 use Rattle.splice.specs.Splice.{splice, Spliced}
 use Rattle.splice.specs.Splicing as splicing
-use Rattle.packed.specs.Numbers.{bytesIn, bytes-long}
+use Rattle.packed.specs.Numbers.{bytesIn}
 use Rattle.packed.specs.Laid.{Puts, spliced}
 use Rattle.packed.specs.Laid as laid
 use Rattle.host.specs.Head.{headBytes}

@@ -1,9 +1,6 @@
 -- What was packed comes back, and has 246 bytes.
-use mathlib.Core.Path.{_≡_, refl, sym, ap, _∙_, fun-ext}
 use mathlib.Core.Bool.{Bool, true, cond, _&&_}
-use mathlib.Core.List.{List, [], _∷_, _++_}
-use Prim.Native.Nat.{ℕ, _+_, _*_, _≤_}
-use native.Mathlib.Omega.{arith}
+use mathlib.Core.Path.{_≡_, refl, ap, _∙_, fun-ext}
 use lib.ListN.{length, getD}
 use lib.Dec.{leb}
 use Rattle.message.specs.declared.Kind.{Kind}
@@ -13,7 +10,7 @@ use Rattle.message.specs.declared.LevelKind.the-variants.{Absent, FlightLevel, 
 use Rattle.message.specs.declared.PointForm.{PointForm}
 use Rattle.message.specs.declared.PointForm.the-variants.{NoPoint, Name, Bearing, Degrees, Minutes}
 use Rattle.message.specs.declared.Record.{Record}
-use Rattle.packed.specs.Numbers.{bytesIn, Small, bytes-long, held-back}
+use Rattle.packed.specs.Numbers.{Small, bytes-long, held-back}
 use Rattle.packed.specs.Packed.{kindNumber, levelNumber, formNumber, kindIn, levelKindIn, formIn, numbersOf, packedOf, known, kindBy, recordBy, recordIn}
 
 pub packed-long : (r : Record) → length (packedOf r) ≡ 246

@@ -2,3 +2,4 @@ pub mod Numbers
 pub mod Packed
 pub mod Back
 pub mod Laid
+pub mod Fits

@@ -9,7 +9,6 @@
 --   109      number, reference; count, level kind, level figure of its own fields; the point's form; crossing kind, figure;
 --            second kind, figure; count, level kind, level figure of the changes; reason
 -- A part is two numbers, where it starts and how long it is.
-use mathlib.Core.Path.{_≡_, refl, sym, ap, _∙_}
 use mathlib.Core.Bool.{Bool, cond, _&&_}
 use mathlib.Core.List.{List, [], _∷_, _++_}
 use Prim.Native.Nat.{ℕ, _+_}

@@ -1,7 +1,6 @@
 -- `host::pamiqsun_is_formed` meets its contract.
 use borrow.Author.Needs.{needs}
 use native.Mathlib.Omega.{arith}
-use borrow.Author.Tests.{not-false}
 use mathlib.Core.Path.{sym, _∙_}
 use mathlib.Core.Bool.{false≢true}
 use Rattle.host.specs.Ways.{is-formed, is-damaged}

@@ -1,5 +1,4 @@
 -- `packed::parts_in` meets its contract.
-use borrow.Author.Needs.{needs}
 use native.Mathlib.Omega.{arith}
 use Rattle.packed.proofs.parts_in.Statement.{statement}
 use Rattle.packed.proofs.parts_in.Tie as tie
