@@ -3,12 +3,13 @@ use mathlib.Core.Path.{_≡_, refl, sym, ap, _∙_, subst}
 use mathlib.Core.Logic.{_⊎_, inl, inr, ⊎-elim, _≢_}
 use mathlib.Core.Bool.{Bool, true, false, cond, _&&_, false≢true}
 use mathlib.Core.Option.{Option, none, some}
-use mathlib.Core.List.{List, [], _∷_}
-use Prim.Native.Nat.{ℕ, zero, suc, _<_}
+use mathlib.Core.List.{List}
+use Prim.Native.Nat.{ℕ, _<_}
 use native.Mathlib.Omega.{arith}
 use lib.ListN.{length}
 use lib.Dec.{ltb}
 use borrow.Author.Tests.{ltb-true, ltb-false}
+use Rattle.kinds.specs.Tools.{keyOf, get-below, true-false, none-some, same?, key-eq, key-yes, key-no, key?}
 use Rattle.scan.specs.Bools.{and-r, known}
 use Rattle.message.specs.declared.Record.{Record}
 use Rattle.message.specs.declared.Verdict.the-variants.{Read}
@@ -26,18 +27,10 @@ use Rattle.deeds.specs.declared.Decision.the-variants.{Fails, Full, Done}
 use Rattle.deeds.specs.Message.{Message, messageOf}
 use Rattle.deeds.specs.Deeds.{Key, sameKey, deedOf, old, new, isFiled, refers, mayOn, makes, may, becomes}
 use Rattle.deeds.specs.Applying.{whereIs, lowestFree, heldAt, flightUnder, other, orFree, home, allowed, decidedAt, decision, after, applied}
-use Rattle.kinds.specs.Tools.{true-false, none-some, same?, key-eq, key-yes, key-no, key?}
 use Rattle.keeping.specs.Said.{Says, Stated, stated}
-use Rattle.keeping.specs.Becoming.{keyOf, Under, becomes-stated}
+use Rattle.keeping.specs.Becoming.{Under, becomes-stated}
 
 -- ONE PLACE OF A KEY
-
--- a place that holds something is one of them
-pub get-below : {A : Type 0} (i : ℕ) (l : Places A) (a : A) → get i l ≡ some a → i < length l
-unfolding get
-get-below i [] a e = absurd (none-some refl e)
-get-below zero (x ∷ l) a e = omega arith
-get-below (suc i) (x ∷ l) a e = let h : i < length l = get-below i l a e in omega arith
 
 -- no two places have flights of one key
 abbrev Distinct : Places Flight → Type 0

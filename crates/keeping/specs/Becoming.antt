@@ -7,6 +7,7 @@ use mathlib.Core.List.{List, [], _∷_}
 use Prim.Native.Nat.{ℕ, _≤_}
 use native.Mathlib.Omega.{arith}
 use lib.Dec.{eqb}
+use Rattle.kinds.specs.Tools.{keyOf}
 use Rattle.scan.specs.Bools.{and-l}
 use Rattle.scan.specs.declared.Class.the-variants.{Letter, Octal, Alnum}
 use Rattle.scan.specs.Grammar.{G, run, Derives}
@@ -24,10 +25,6 @@ use Rattle.deeds.specs.Message.{Message}
 use Rattle.deeds.specs.Deeds.{Key, deedOf, orHeld, old, changedKey, new, isFiled, isCalm, isOffered, isNone, refers, codeFits, mayOn, makes, may, made, withField, amended, estimated, becomesOn, begins, becomes}
 use Rattle.perform.specs.Performed.{offered-sound, accepted-sound, none-sound}
 use Rattle.keeping.specs.Said.{Timely, Says, Stated}
-
--- the key under which a flight stands
-abbrev pub keyOf : Flight → Key
-keyOf x = record { aircraft = x .aircraft; departure = x .departure; destination = x .destination }
 
 -- free, or with a flight of this key
 abbrev pub Under : Key → Option Flight → Type 0

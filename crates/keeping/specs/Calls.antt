@@ -8,6 +8,7 @@ use native.Mathlib.Omega.{arith}
 use lib.ListN.{length, getD}
 use lib.Dec.{eqb, leb}
 use borrow.Author.Tests.{eq-eqb}
+use Rattle.kinds.specs.Tools.{get-below, true-false}
 use Rattle.scan.specs.Bools.{neither}
 use Rattle.message.specs.declared.Kind.{Kind}
 use Rattle.message.specs.declared.Kind.the-variants.{Rla}
@@ -36,10 +37,9 @@ use Rattle.rules.specs.Laws.{answer-value}
 use Rattle.response.specs.Answering.{answerText}
 use Rattle.rules.specs.Receiving.{directed, waitingAt, settledSent, settled, settle, settleHeld, settleAt, hearAnswer, retires, retireHeld, retireAt, retired, about, handled, giving, hearFirst, raised, hearAgain, hearOld, hearMessage, hear, receiveBy, receive}
 use Rattle.rules.specs.Sending.{anyWaiting, tooOld, naming, mayBeSent, fills, sending, sendAt, send}
-use Rattle.kinds.specs.Tools.{true-false}
 use Rattle.kinds.specs.Ends.{SoundEnd}
 use Rattle.keeping.specs.Said.{Stated, stated}
-use Rattle.keeping.specs.Applied.{get-below, applied-stated}
+use Rattle.keeping.specs.Applied.{applied-stated}
 use Rattle.keeping.specs.Waits.{freed-formed, stored-formed}
 use Rattle.keeping.specs.Answers.{given-formed, forgotten-formed}
 

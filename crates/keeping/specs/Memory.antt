@@ -7,6 +7,7 @@ use mathlib.Core.List.{List}
 use Prim.Native.Nat.{ℕ, zero, suc, _*_, _≤_, _<_}
 use native.Mathlib.Omega.{arith}
 use lib.ListN.{length, replicate, length-replicate, getD-replicate}
+use Rattle.kinds.specs.Tools.{get-below, none-some, some-inj}
 use Rattle.scan.specs.declared.Class.the-variants.{Letter}
 use Rattle.scan.specs.Grammar.{Derives, run}
 use Rattle.head.specs.declared.Head.{Head}
@@ -23,9 +24,8 @@ use Rattle.answers.specs.Given.{isValue, AnswersFormed}
 use Rattle.memory.specs.End.{End, Memory, Formed, waitingForm, waitingIn, endOf, memoryOf}
 use Rattle.memory.specs.Held.{sixteen, waiting-free, waiting-used}
 use Rattle.rules.specs.Sending.{fresh}
-use Rattle.kinds.specs.Tools.{none-some, some-inj}
 use Rattle.kinds.specs.Ends.{WaitingFormed, SoundEnd}
-use Rattle.keeping.specs.Applied.{get-below, order?}
+use Rattle.keeping.specs.Applied.{order?}
 
 -- FROM THE MEMORY
 

@@ -4,10 +4,14 @@ use mathlib.Core.Logic.{_⊎_, inl, inr, _≢_}
 use mathlib.Core.Bool.{Bool, true, false, cond, _&&_}
 use mathlib.Core.Option.{Option, none, some}
 use mathlib.Core.List.{List, [], _∷_}
-use Prim.Native.Nat.{ℕ}
+use Prim.Native.Nat.{ℕ, zero, suc, _<_}
 use native.Mathlib.Decide.{ℕ-discrete}
-use lib.Dec.{T, eqb}
+use lib.Dec.{eqb}
 use borrow.Author.Tests.{eq-eqb, ne-eqb}
+use native.Mathlib.Omega.{arith}
+use lib.ListN.{length}
+use Rattle.flights.specs.Flight.{Flight}
+use Rattle.places.specs.Places.{Places, get}
 use Rattle.deeds.specs.Deeds.{Key, sameKey}
 use Rattle.places.specs.Bytes.{same, same-is}
 
@@ -26,13 +30,6 @@ under f k v j = cond (sameKey j k) v (f j)
 
 pub same? : (a b : ℕ) → (a ≡ b) ⊎ (a ≢ b)
 same? a b = elim (ℕ-discrete a b) [ yes p ↦ inl p | no p ↦ inr p ]
-
-pub T→≡ : (b : Bool) → T b → b ≡ true
-T→≡ true t = refl
-T→≡ false t = absurd t
-
-pub ≡→T : (b : Bool) → b ≡ true → T b
-≡→T b e = subst T (sym e) tt
 
 pub upd-same : {A : Type 0} (f : ℕ → A) (k : ℕ) (v : A) (j : ℕ) → j ≡ k → upd f k v j ≡ v
 unfolding upd
@@ -68,11 +65,18 @@ pub cons-nil : {A : Type 0} {x : A} {l m : List A} → m ≡ (x ∷ l) → m ≡
 unfolding nil?
 cons-nil p q = true-false (ap nil? q) (ap nil? p)
 
-pub nil-or : {A : Type 0} (l : List A) → (l ≡ []) ⊎ (l ≡ [] → ⊥)
-nil-or [] = inl refl
-nil-or (x ∷ l) = inr (λ e. cons-nil refl e)
+-- a place that holds something is one of them
+pub get-below : {A : Type 0} (i : ℕ) (l : Places A) (a : A) → get i l ≡ some a → i < length l
+unfolding get
+get-below i [] a e = absurd (none-some refl e)
+get-below zero (x ∷ l) a e = omega arith
+get-below (suc i) (x ∷ l) a e = let h : i < length l = get-below i l a e in omega arith
 
 -- KEYS
+
+-- the key under which a flight stands
+abbrev pub keyOf : Flight → Key
+keyOf x = record { aircraft = x .aircraft; departure = x .departure; destination = x .destination }
 
 pub key-eq : (a b : Key) → sameKey a b ≡ true → a ≡ b
 key-eq a b e =

@@ -8,6 +8,7 @@ use Prim.Native.Nat.{ℕ, _+_, _-_, _≤_, _<_}
 use native.Mathlib.Omega.{arith}
 use lib.Dec.{eqb}
 use borrow.Author.Tests.{eq-eqb}
+use Rattle.kinds.specs.Tools.{get-below, true-false, none-some}
 use Rattle.scan.specs.Bools.{both}
 use Rattle.message.specs.declared.Kind.{Kind}
 use Rattle.message.specs.declared.Kind.the-variants.{None, Fpl, Cpl, Est, Chg, Cnl, Rti, Rta, Rla, Lam, Lrm}
@@ -33,7 +34,6 @@ use Rattle.rules.specs.Answers.{isAcceptance, isOffering}
 use Rattle.rules.specs.Receiving.{units, referred, directed, waitingAt, receive}
 use Rattle.rules.specs.Sending.{send}
 use Rattle.response.specs.Answering.{answerText}
-use Rattle.kinds.specs.Tools.{true-false, none-some}
 use Rattle.kinds.specs.Kinds.{contentOf, answerKind}
 use Rattle.kinds.specs.Views.{Learns, Hears}
 use Rattle.kinds.specs.Ends.{viewOf, SoundEnd, waitsIn}
@@ -41,7 +41,7 @@ use Rattle.exchange.specs.Runs.{num}
 use Rattle.answering.specs.Answered.{Answerable, Answered, answer-read, answer-short}
 use Rattle.keeping.specs.Applied.{applied-formed}
 use Rattle.keeping.specs.Calls as k
-use Rattle.views.specs.Waits.{waits-found, number-at, get-below}
+use Rattle.views.specs.Waits.{waits-found, number-at}
 use Rattle.views.specs.Sent as s
 use Rattle.views.specs.Learnt as l
 use Rattle.views.specs.Heard as h

@@ -9,6 +9,7 @@ use native.Mathlib.Omega.{arith}
 use lib.ListN.{length}
 use lib.Dec.{ltb}
 use borrow.Author.Tests.{ltb-true, ltb-false}
+use Rattle.kinds.specs.Tools.{keyOf, guard, under, same?, true-false, none-some, some-inj, and-yes, key-eq, key-yes, key-no, key?, under-same, under-other}
 use Rattle.message.specs.declared.Kind.{Kind}
 use Rattle.message.specs.declared.Kind.the-variants.{None, Fpl, Cpl, Est, Chg, Cnl, Rti, Rta, Rla, Lam, Lrm}
 use Rattle.message.specs.Record.{isChg}
@@ -27,7 +28,6 @@ use Rattle.deeds.specs.Deeds.{Key, inOrder, turned, rtaDeed, deedBy, deedOf, or
 use Rattle.deeds.specs.Applying.{whereIs, lowestFree, heldAt, flightUnder, other, orFree, allowed, decidedAt, decision, after, applied}
 use Rattle.rules.specs.Answers.{goodAnswer, answerTo, isOffering, isAcceptance, proper}
 use Rattle.rules.specs.Laws.{accepts}
-use Rattle.kinds.specs.Tools.{guard, under, same?, true-false, none-some, some-inj, and-yes, key-eq, key-yes, key-no, key?, under-same, under-other}
 use Rattle.kinds.specs.Kinds as kind
 use Rattle.kinds.specs.Kinds.{own, near, messageOf, orderly, effect, close, isYes, answerKind, properTo, Table, eff, put, grown}
 use Rattle.kinds.specs.Views.{Applied, fails, full, stored}
@@ -76,9 +76,6 @@ grown-is (some x) none u v e = omega arith
 grown-is (some x) (some z) u v e = omega arith
 
 -- WHERE A KEY IS
-
-abbrev pub keyOf : Flight → Key
-keyOf x = record { aircraft = x .aircraft; departure = x .departure; destination = x .destination }
 
 module _ (k : Key) (l : Places Flight) where
   abbrev asked : Option Flight → Bool

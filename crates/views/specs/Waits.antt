@@ -8,6 +8,7 @@ use Prim.Native.Nat.{ℕ, zero, suc, _+_, _<_}
 use native.Mathlib.Omega.{arith}
 use lib.ListN.{length}
 use borrow.Author.Tests.{eq-eqb, eqb-true, ne-eqb}
+use Rattle.kinds.specs.Tools.{get-below, upd, upd-same, upd-other, same?, true-false, none-some, some-inj}
 use Rattle.scan.specs.Bools.{neither}
 use Rattle.places.specs.declared.Place.{Place}
 use Rattle.places.specs.declared.Place.the-variants.{At, Nowhere}
@@ -23,7 +24,6 @@ use Rattle.rules.specs.Answers.{isAcceptance}
 use Rattle.rules.specs.Laws.{accepts}
 use Rattle.rules.specs.Receiving.{waitingAt}
 use Rattle.rules.specs.Sending.{anyWaiting, countWaiting}
-use Rattle.kinds.specs.Tools.{upd, upd-same, upd-other, same?, true-false, none-some, some-inj}
 use Rattle.kinds.specs.Kinds.{Content, own, near, contentOf, takes}
 use Rattle.kinds.specs.Ends.{WaitingFormed, contentIn, waitsIn}
 
@@ -45,13 +45,6 @@ number-not n q d = ne-eqb (q .number) n (λ e. d (sym e))
 free-numbered : (n : ℕ) (o : Option Waiting) → o ≡ none → numbered n o ≡ false
 unfolding numbered
 free-numbered n o e = ap (numbered n) e
-
--- a place past the end holds nothing
-pub get-below : {A : Type 0} (i : ℕ) (l : Places A) (a : A) → get i l ≡ some a → i < length l
-unfolding get
-get-below i [] a e = absurd (none-some refl e)
-get-below zero (x ∷ l) a e = omega arith
-get-below (suc i) (x ∷ l) a e = let h : i < length l = get-below i l a e in omega arith
 
 -- WHAT IS FOUND
 
