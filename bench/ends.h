@@ -32,6 +32,11 @@ struct implementation {
 #define IMPLEMENTATION_NAMED(prefix) \
     { #prefix, prefix##_read, prefix##_write, prefix##_set_up, prefix##_send, prefix##_receive, prefix##_resend }
 
+/* One function of an implementation, for programs that need no more of it: of ref, or of pamiqsun_checked, which is the library as
+   a host calls it.  The one gives numbers as uint64_t, the other as size_t: on x86-64 these are one type. */
+#define FUNCTION(prefix, name) FUNCTION_NAMED(prefix, name)
+#define FUNCTION_NAMED(prefix, name) prefix##_##name
+
 /* The implementation that is compared. */
 read_function proved_read;
 write_function proved_write;

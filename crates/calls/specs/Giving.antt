@@ -1,5 +1,5 @@
 -- A text that was put at the start of a buffer.
-use mathlib.Core.Path.{_≡_, sym, ap, _∙_}
+use mathlib.Core.Path.{_≡_, ap, _∙_}
 use mathlib.Core.List.{List, _++_}
 use Prim.Native.Nat.{ℕ, _+_, _≤_, _<_}
 use native.Mathlib.Omega.{arith}
@@ -7,7 +7,6 @@ use lib.ListN.{length, drop}
 use Rattle.head.specs.declared.Head.{Head}
 use Rattle.splice.specs.Splice.{splice, Spliced}
 use Rattle.calls.specs.declared.Answer.the-variants.{Done, NoRoom}
-use Rattle.calls.specs.declared.Outcome.{Outcome}
 use Rattle.calls.specs.Calls.{Gives}
 
 pub gave : (h : Head) (t out e : List ℕ) (n : ℕ) → length t ≤ length out → Spliced 0 t out e n → Gives h t out (record { answer = Done n; head = h }) e

@@ -1,20 +1,24 @@
 -- A CALL'S CONTRACT LEAVES NO CHOICE: any two outcomes that it allows are equal.
 use mathlib.Core.Path.{_≡_, refl, sym, ap, _∙_}
+use mathlib.Core.Logic.{_⊎_, inl, inr}
 use mathlib.Core.Bool.{Bool, true, false, cond, true≢false}
 use mathlib.Core.List.{List}
-use Prim.Native.Nat.{ℕ, _≤_}
+use Prim.Native.Nat.{ℕ, _≤_, _<_}
 use native.Mathlib.Omega.{arith}
 use native.Mathlib.Decide.{ℕ-discrete}
-use lib.Dec.{eqb}
+use lib.ListN.{length}
+use lib.Dec.{eqb, ltb}
+use borrow.Author.Tests.{ltb-true, ltb-false}
+use Rattle.scan.specs.Bools.{known}
 use Rattle.places.specs.Bytes.{same, same-is}
 use Rattle.head.specs.declared.Head.{Head}
-use Rattle.memory.specs.End.{End, Memory, Formed, endOf}
+use Rattle.memory.specs.End.{End, Memory, endOf}
 use Rattle.rules.specs.Replies.{Refusal, number, Reply, refused, done}
 use Rattle.rules.specs.Refusals.{Numbered}
 use Rattle.calls.specs.declared.Answer.{Answer}
 use Rattle.calls.specs.declared.Answer.the-variants.{Done, NotRead, NoRoom, WrongUnits, Stale, NothingUnanswered, WrongAnswer, NamedAlready, TooManyUnanswered, TooFarBack, ConditionFails, TableFull, NotFormed, BreaksRule, BadNames}
 use Rattle.calls.specs.declared.Outcome.{Outcome}
-use Rattle.calls.specs.Calls.{refusalIn, lengthIn, Comes, Called}
+use Rattle.calls.specs.Calls.{refusalIn, lengthIn, Comes, Called, Gives}
 
 -- WHAT A CALL HAS LEFT
 pub record Left : Type 0 where
@@ -141,3 +145,14 @@ module _ (h : Head) (m : Memory) (out : List ℕ) (o p : Outcome) (m′ n′ : M
       (λ n. n (comes-one (refused (number 12)) (omega arith)
       (c .damaged (λ f. n (comes-one (step (endOf h m)) (k (endOf h m)) (c .formed f) (d .formed f))))
       (d .damaged (λ f. n (comes-one (step (endOf h m)) (k (endOf h m)) (c .formed f) (d .formed f))))))
+
+-- A TEXT THAT IS GIVEN
+pub gives-one : (h : Head) (t out : List ℕ) (o p : Outcome) (a b : List ℕ) → Gives h t out o a → Gives h t out p b → (o ≡ p) × (a ≡ b)
+gives-one h t out o p a b x y = go (known (ltb (length out) (length t)))
+  where
+    both : {v : Answer} {c : List ℕ} → (o .answer ≡ v) × (a ≡ c) → (p .answer ≡ v) × (b ≡ c) → (o ≡ p) × (a ≡ b)
+    both c d = (λ i. record { answer = (c .0 ∙ sym (d .0)) i; head = (x .0 ∙ sym (y .0)) i }, c .1 ∙ sym (d .1))
+
+    go : (ltb (length out) (length t) ≡ true) ⊎ (ltb (length out) (length t) ≡ false) → (o ≡ p) × (a ≡ b)
+    go (inl k) = let l : length out < length t = ltb-true (length out) (length t) k in both (x .1 .1 l) (y .1 .1 l)
+    go (inr k) = let l : length t ≤ length out = ltb-false (length out) (length t) k in both (x .1 .0 l) (y .1 .0 l)

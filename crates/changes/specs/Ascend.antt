@@ -9,7 +9,7 @@ use lib.Dec.{eqb}
 use Rattle.scan.specs.declared.Scan.{Scan}
 use Rattle.scan.specs.declared.Span.{Span}
 use Rattle.scan.specs.Grammar.{G, alt, none}
-use Rattle.scan.specs.Texts.{_⨾_, byte, opt, lit}
+use Rattle.scan.specs.Texts.{_⨾_, lit}
 use Rattle.scan.specs.Scanner.{scan, among, occurs, spanBy, spot}
 use Rattle.scan.specs.Tests.{good}
 use Rattle.scan.specs.Theory.{skip, ok-before}
@@ -24,12 +24,12 @@ use Rattle.fields.specs.declared.Found13.{Found13}
 use Rattle.fields.specs.declared.Found15.{Found15}
 use Rattle.fields.specs.declared.Found16.{Found16}
 use Rattle.fields.specs.declared.Found18.{Found18}
-use Rattle.fields.specs.Fields.{_─_, nothing18, three18, four18, g07, g08, g09, g10, g13, g15, g16, g18}
+use Rattle.fields.specs.Fields.{_─_, nothing18, three18, four18, g07, g08, g09, g10, g13, g15, g16}
 use Rattle.fields.specs.Found.{found07, same07, found08, same08, found09, same09, found10, same10, found13, same13, found15, same15, found16, same16, found18, same18}
 use Rattle.changes.specs.declared.Plan.{Plan}
 use Rattle.changes.specs.declared.Found22.{Found22}
 use Rattle.changes.specs.declared.FoundTail.{FoundTail}
-use Rattle.changes.specs.Changes.{from08, inChanges, changes, inChanged, changed}
+use Rattle.changes.specs.Changes.{inChanges, changes, inChanged, changed}
 use Rattle.changes.specs.Found.{planOf, noPlan, found22, nothing22, found22-same, foundTail, eitherFoundTail, foundTail-alt}
 
 -- the part k of a plan

@@ -1,10 +1,7 @@
 -- What the blocks make is the text that the parts compose.
-use mathlib.Core.Path.{_≡_, refl, sym, ap, _∙_}
-use mathlib.Core.Bool.{true, false, cond, not}
-use mathlib.Core.List.{List, [], _∷_, _++_}
+use mathlib.Core.Path.{_≡_, refl, sym}
+use mathlib.Core.List.{List, [], _∷_}
 use Prim.Native.Nat.{ℕ}
-use lib.ListN.{length}
-use Rattle.scan.specs.declared.Span.{Span}
 use Rattle.scan.specs.Scanner.{among, occurs}
 use Rattle.scan.specs.Tests.{names}
 use Rattle.fields.specs.Fields.{inNumbered, in07, in08, counted, in09, in10, timed, in13, in13o, level3, level4, levelled, pointed, in14, after15, in15, alternates, in16, inThree18, inFour18, in18}

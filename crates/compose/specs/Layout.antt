@@ -5,16 +5,16 @@ use mathlib.Core.Path.{_≡_, refl, sym, ap, _∙_, subst}
 use mathlib.Core.Logic.{_⊎_, inl, inr, ⊎-elim}
 use mathlib.Core.Bool.{Bool, true, false, cond, not, _&&_, _||_, false≢true}
 use mathlib.Core.List.{List, [], _∷_, _++_, append-assoc, append-nil}
-use Prim.Native.Nat.{ℕ, zero, suc, _+_, _-_, _≤_, _<_}
+use Prim.Native.Nat.{ℕ, zero, suc, _+_, _≤_, _<_}
 use native.Mathlib.Omega.{arith}
-use lib.ListN.{length, take, drop, replicate, length-append, length-replicate}
+use lib.ListN.{length, take, drop, replicate, length-append}
 use lib.Seq.{drop-append-seam, take-append-seam}
 use lib.Dec.{leb, ltb, eqb}
-use borrow.Author.Tests.{leb-true, ltb-true, lt-ltb, le-ltb, eqb-true, eq-eqb, not-true}
+use borrow.Author.Tests.{leb-true, lt-ltb, le-ltb, eqb-true, eq-eqb, not-true}
 use Rattle.scan.specs.Bools.{and-l, and-r, or-split, or-l, or-r, neither, known}
 use Rattle.scan.specs.declared.Class.{Class}
 use Rattle.scan.specs.declared.Class.the-variants.{Letter, Digit, Octal, Alnum, Word, Byte, Range, Two, Of}
-use Rattle.scan.specs.Grammar.{isIn, all, G, eps, run, words, seq, alt, part, field, Derives, Part, placed, Reads, none, look}
+use Rattle.scan.specs.Grammar.{all, G, eps, run, words, seq, alt, part, field, Derives, Part, Reads, look}
 use Rattle.scan.specs.Scanner.{among, occurs}
 use Rattle.scan.specs.Tests.{nullable, names, strange, covers, plain}
 use Rattle.scan.specs.Theory.{null-sound, good-a, good-b}

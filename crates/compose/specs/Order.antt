@@ -1,16 +1,15 @@
 -- In what order the parts of any message stand: all ten types have their fields in one order, and differ in which they have.
 use mathlib.Core.Path.{_≡_, refl, sym, ap, _∙_, subst}
 use mathlib.Core.Logic.{_⊎_, inl, inr, ⊎-elim}
-use mathlib.Core.Bool.{true}
 use mathlib.Core.List.{List, [], _∷_, _++_, append-assoc, append-nil}
 use Prim.Native.Nat.{ℕ}
-use Rattle.scan.specs.Grammar.{G, eps, run, words, seq, alt, part, field, Part, Reads}
+use Rattle.scan.specs.Grammar.{G, eps, run, alt, part, field}
 use Rattle.scan.specs.declared.Class.the-variants.{Digit}
 use Rattle.scan.specs.Texts.{_⨾_, byte, opt, lit}
 use Rattle.fields.specs.Names as n
-use Rattle.fields.specs.Fields.{_─_, numbered, in07, g07, g07a, g08, g09, g10, in13, g13, g13s, in13o, g13o, g14, g15, alternates, in16, g16, g16s, nothing18, three18, four18, in18, g18, g31, g32}
+use Rattle.fields.specs.Fields.{_─_, numbered, in07, g07, g07a, g08, g09, g10, in13, g13, g13s, in13o, g13o, g14, g15, alternates, in16, g16, g16s, in18, g18, g31, g32}
 use Rattle.changes.specs.Changes.{from18, from16, from15, from13, from10, from09, from08, inChanges, changes, inChanged, changed}
-use Rattle.types.specs.Messages.{opened, referring, fpl, cpl, est, chg, cnl, rti, rta, rla, lam, lrm}
+use Rattle.types.specs.Messages.{opened, fpl, cpl, est, chg, cnl, rti, rta, rla, lam, lrm}
 use Rattle.compose.specs.Layout.{Told, Tells}
 
 -- a field there or not, after its hyphen

@@ -1,13 +1,12 @@
 -- A MESSAGE APPLIED TO A TABLE OF FLIGHTS: where its flight is, whether it may be done, and what the table is afterwards.
 use mathlib.Core.Bool.{Bool, true, false, cond}
-use mathlib.Core.Option.{Option, none, some}
+use mathlib.Core.Option.{Option, none}
 use Prim.Native.Nat.{ℕ}
 use Rattle.places.specs.declared.Place.{Place}
 use Rattle.places.specs.declared.Place.the-variants.{At, Nowhere}
 use Rattle.places.specs.Places.{Places, get, set, firstOf, isFree}
 use Rattle.flights.specs.Flight.{Flight}
 use Rattle.flights.specs.Decoded.{keyed}
-use Rattle.deeds.specs.declared.Deed.{Deed}
 use Rattle.deeds.specs.declared.Decision.{Decision}
 use Rattle.deeds.specs.declared.Decision.the-variants.{Fails, Full, Done}
 use Rattle.deeds.specs.Message.{Message}

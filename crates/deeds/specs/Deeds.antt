@@ -1,6 +1,6 @@
 -- WHAT A MESSAGE DOES TO THE FLIGHT THAT IT NAMES, by document 01's "Applying a message to its sender's flights". Nothing else
 -- in the project says what a type of message does to a record.
-use mathlib.Core.Bool.{Bool, true, false, cond, not, _&&_, _||_}
+use mathlib.Core.Bool.{Bool, true, false, cond, not, _&&_}
 use mathlib.Core.Option.{Option, none, some}
 use mathlib.Core.List.{List, [], _∷_}
 use Prim.Native.Nat.{ℕ}

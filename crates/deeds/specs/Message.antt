@@ -1,6 +1,5 @@
 -- WHAT AN END TAKES FROM A MESSAGE that was read: its type, its number and reference, and the texts of its fields.
-use mathlib.Core.Bool.{Bool, true, false, cond, _&&_}
-use mathlib.Core.List.{List, [], _∷_}
+use mathlib.Core.List.{List}
 use Prim.Native.Nat.{ℕ}
 use Rattle.message.specs.declared.Kind.{Kind}
 use Rattle.message.specs.declared.Record.{Record}

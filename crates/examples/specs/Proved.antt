@@ -1,7 +1,6 @@
 -- The table holds: antt computes the verdict of each text and the standing of each number.
 use mathlib.Core.Path.{_≡_, refl, subst}
 use mathlib.Core.List.{List, [], _∷_}
-use Rattle.message.specs.declared.Verdict.{Verdict}
 use Rattle.scan.specs.Scanner.{runAt, runScan, wordsAt, wordsScan, longer, leads, among, occurs, between, spanBy, between16}
 use Rattle.fields.specs.Fields.{inNumbered, in07, in08, counted, in09, in10, hour, minute, timed, in13, in13o, level3, level4, levelled, bearing, bearingFrom, degrees, minutes, pointed, in14, after15, in15, alternates, in16, inThree18, inFour18, in18}
 use Rattle.changes.specs.Changes.{from18, from16, from15, from13, from10, from09, from08, inChanges, inChanged}

@@ -216,19 +216,3 @@ module _ (w : List ℕ) (r : Record) (j : Judged w Read r) where
   pub est-said : r .kind ≡ Est → Estimated (textsOf w (r .parts .own)) (field14Of w (r .parts .estimate))
   unfolding namesFlight typeOf kept strange covers among occurs names est
   est-said e = record { key = key-said w r j Est e refl; estimate = estimated w r j Est e same }
-
-  pub chg-said : r .kind ≡ Chg → Named (textsOf w (r .parts .own))
-  unfolding namesFlight
-  chg-said e = key-said w r j Chg e refl
-
-  pub cnl-said : r .kind ≡ Cnl → Named (textsOf w (r .parts .own))
-  unfolding namesFlight
-  cnl-said e = key-said w r j Cnl e refl
-
-  pub rti-said : r .kind ≡ Rti → Named (textsOf w (r .parts .own))
-  unfolding namesFlight
-  rti-said e = key-said w r j Rti e refl
-
-  pub rta-said : r .kind ≡ Rta → Named (textsOf w (r .parts .own))
-  unfolding namesFlight
-  rta-said e = key-said w r j Rta e refl

@@ -43,14 +43,6 @@ module _ (w : List ℕ) (r : Record) (j : Judged w Read r) (a b c : ℕ) (t : Te
     sure-part n.number (run Digit 3 3) same refl,
   )
 
-  reference-ordered : Derives (opt (run Letter 4 4)) (cut w (r .parts .reference .sender)) × Derives (opt (run Letter 4 4)) (cut w (r .parts .reference .receiver)) × Derives (opt (run Digit 3 3)) (cut w (r .parts .reference .digits))
-  unfolding kept fine ordered filled only isNil takesFirst first laid sure single pieces sameBool samePieces even told among occurs nullable clear apart fixed heads differ offLeaf off names strange covers plain inNumbered in07 in08 counted in09 in10 hour minute timed in13 in13o level3 level4 levelled bearing bearingFrom degrees minutes pointed in14 after15 in15 alternates in16 inThree18 inFour18 in18
-  reference-ordered = (
-    part-said w r j a b c t n.referenceSender (run Letter 4 4) same refl,
-    part-said w r j a b c t n.referenceReceiver (run Letter 4 4) same refl,
-    part-said w r j a b c t n.referenceNumber (run Digit 3 3) same refl,
-  )
-
   sector-ordered : Derives (opt (words 20)) (cut w (r .parts .sector))
   unfolding kept fine ordered filled only isNil takesFirst first laid sure single pieces sameBool samePieces even told among occurs nullable clear apart fixed heads differ offLeaf off names strange covers plain inNumbered in07 in08 counted in09 in10 hour minute timed in13 in13o level3 level4 levelled bearing bearingFrom degrees minutes pointed in14 after15 in15 alternates in16 inThree18 inFour18 in18
   sector-ordered = part-said w r j a b c t n.sector (words 20) same refl
@@ -75,18 +67,11 @@ figure-small s p e d =
     let h : all Digit (take 3 (drop (p .at) s)) ≡ true = ap (λ (k : ℕ). all Digit (take k (drop (p .at) s))) (sym e) ∙ d in
     rw e (omega (arith, digit-at s (p .at) 0 (omega arith) h, digit-at s (p .at) 1 (omega arith) h, digit-at s (p .at) 2 (omega arith) h))
 
-no-figure : (s : List ℕ) (p : Span) → p .len ≡ 0 → figureIn s p ≤ 999
-unfolding figure
-no-figure s p e = rw e (omega arith)
-
 -- WHAT A MESSAGE THAT WAS READ SAYS
 
 module _ (w : List ℕ) (r : Record) (j : Judged w Read r) where
   pub number-said : Derives (run Letter 4 4) (cut w (r .parts .number .sender)) × Derives (run Letter 4 4) (cut w (r .parts .number .receiver)) × Derives (run Digit 3 3) (cut w (r .parts .number .digits))
   number-said = order w r j _ (number-ordered w r j)
-
-  pub reference-said : Derives (opt (run Letter 4 4)) (cut w (r .parts .reference .sender)) × Derives (opt (run Letter 4 4)) (cut w (r .parts .reference .receiver)) × Derives (opt (run Digit 3 3)) (cut w (r .parts .reference .digits))
-  reference-said = order w r j _ (reference-ordered w r j)
 
   pub sector-said : Derives (opt (words 20)) (cut w (r .parts .sector))
   sector-said = order w r j _ (sector-ordered w r j)
@@ -104,12 +89,3 @@ module _ (w : List ℕ) (r : Record) (j : Judged w Read r) where
       let d = number-said .2 in
       subst (λ (x : ℕ). x ≤ 999) (ap (λ (x : Record). figureIn w (x .parts .number .digits)) (j .2) ∙ sym (ap (λ (x : Record). x .figures .number) (j .2)))
       (figure-small w (r .parts .number .digits) (omega (arith, size-of n.number, d .1, d .2)) (d .0))
-
-  pub reference-small : r .figures .reference ≤ 999
-  reference-small =
-      let q = r .parts .reference .digits in
-      subst (λ (x : ℕ). x ≤ 999) (ap (λ (x : Record). figureIn w (x .parts .reference .digits)) (j .2) ∙ sym (ap (λ (x : Record). x .figures .reference) (j .2)))
-      (⊎-elim
-      (λ e. no-figure w q (size-of n.referenceNumber ∙ ap length e))
-      (λ d. figure-small w q (omega (arith, size-of n.referenceNumber, d .1, d .2)) (d .0))
-      (reference-said .2))

@@ -3,13 +3,12 @@ use mathlib.Core.Path.{_≡_, refl, sym, ap, _∙_}
 use mathlib.Core.Logic.{_⊎_, inl, inr}
 use mathlib.Core.Bool.{Bool, true, false, cond, not, _&&_, _||_}
 use mathlib.Core.List.{List, [], _∷_}
-use Prim.Native.Nat.{ℕ, _+_, _-_, _≤_}
+use Prim.Native.Nat.{ℕ, _-_, _≤_}
 use native.Mathlib.Omega.{arith}
 use lib.Dec.{ltb}
 use borrow.Author.Tests.{lt-ltb, le-ltb, ltb-false, not-true}
 use Rattle.scan.specs.Bools.{and-l, and-r, known}
 use Rattle.scan.specs.declared.Scan.{Scan}
-use Rattle.scan.specs.declared.Class.{Class}
 use Rattle.scan.specs.declared.Class.the-variants.{Letter, Digit, Alnum, Byte, Range, Of}
 use Rattle.scan.specs.Grammar.{G, ranges, run, words, alt, part, none}
 use Rattle.scan.specs.Texts.{_⨾_, byte, one, lit}
@@ -20,7 +19,7 @@ use Rattle.scan.specs.Picks.{Same, same-trans, sunderLeaf, sunder, lies, within
 use Rattle.fields.specs.declared.Found15.{Found15}
 use Rattle.fields.specs.declared.Found18.{Found18}
 use Rattle.fields.specs.Names as n
-use Rattle.fields.specs.Fields.{hour, minute, level3, level4, levelled, bearing, bearingFrom, degrees, minutes, pointed, after15, in15, g15, nothing18, inThree18, three18, inFour18, four18, in18, g18}
+use Rattle.fields.specs.Fields.{hour, minute, level3, level4, levelled, bearing, bearingFrom, degrees, minutes, pointed, after15, in15, nothing18, inThree18, three18, inFour18, four18, in18}
 use Rattle.fields.specs.Found.{foundRouted, foundAfter15, foundSped, found15, found18}
 
 abbrev early : G

@@ -1,6 +1,6 @@
 -- Document 01's fields, line by line, as grammars. `o` is 0 for a message's own field and `amended` within field 22.
 -- Where a field has several parts, `in..` is its rule, and `g..` that rule with the list of the parts that it names.
-use mathlib.Core.List.{List, [], _∷_}
+use mathlib.Core.List.{[], _∷_}
 use Prim.Native.Nat.{ℕ, _+_, _-_}
 use Rattle.scan.specs.declared.Class.{Class}
 use Rattle.scan.specs.declared.Class.the-variants.{Letter, Digit, Octal, Alnum, Range, Of}

@@ -1,13 +1,11 @@
 -- What the scan of each field finds: where it ends, and where its parts stand.
-use mathlib.Core.List.{List, [], _∷_}
+use mathlib.Core.List.{List}
 use mathlib.Core.Path.{_≡_, refl}
-use mathlib.Core.Bool.{cond}
-use Prim.Native.Nat.{ℕ, _+_, _-_}
+use Prim.Native.Nat.{ℕ, _+_}
 use Rattle.scan.specs.declared.Scan.{Scan}
-use Rattle.scan.specs.declared.Class.the-variants.{Digit, Of}
-use Rattle.scan.specs.Grammar.{run, words, none}
-use Rattle.scan.specs.Texts.{_⨾_, byte, one, lit}
-use Rattle.scan.specs.Scanner.{scan, longer, leads, among, occurs, between16, spanBy, spot}
+use Rattle.scan.specs.Grammar.{words, none}
+use Rattle.scan.specs.Texts.{_⨾_, byte}
+use Rattle.scan.specs.Scanner.{scan, among, occurs, between16, spanBy, spot}
 use Rattle.fields.specs.declared.FoundNumber.{FoundNumber}
 use Rattle.fields.specs.declared.Found07.{Found07}
 use Rattle.fields.specs.declared.Found08.{Found08}
@@ -19,7 +17,7 @@ use Rattle.fields.specs.declared.Found15.{Found15}
 use Rattle.fields.specs.declared.Found16.{Found16}
 use Rattle.fields.specs.declared.Found18.{Found18}
 use Rattle.fields.specs.Names as n
-use Rattle.fields.specs.Fields.{numbered, in07, g07, in08, g08, in09, g09, in10, g10, in13, g13, g13o, level3, level4, g14, after15, in15, g15, alternates, in16, g16, inThree18, inFour18, in18, g18}
+use Rattle.fields.specs.Fields.{numbered, in07, g07, in08, g08, in09, g09, in10, g10, in13, g13, g13o, g14, after15, in15, g15, alternates, in16, g16, inThree18, inFour18, in18, g18}
 
 abbrev pub foundNumber : List ℕ → Scan → FoundNumber
 foundNumber s r = record {

@@ -1,6 +1,6 @@
 -- The names of the parts of a record. Those of fields 07 to 18 come twice: as they stand here for a message's own
 -- fields, and `amended`, 32 more, for the same fields within field 22.
-use Prim.Native.Nat.{ℕ, _+_}
+use Prim.Native.Nat.{ℕ}
 
 abbrev pub aircraft : ℕ
 aircraft = 1

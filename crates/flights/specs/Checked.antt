@@ -1,22 +1,21 @@
 -- What the check of a record decides.
 use mathlib.Core.Path.{_≡_, refl, sym, ap, _∙_, subst}
-use mathlib.Core.Logic.{_⊎_, inl, inr, ⊎-elim}
-use mathlib.Core.Bool.{Bool, true, false, cond, _&&_, _||_, false≢true}
+use mathlib.Core.Bool.{Bool}
 use mathlib.Core.List.{List, [], _∷_, _++_, nil≢cons}
-use Prim.Native.Nat.{ℕ, zero, suc, _+_, _-_, _*_, _≤_, _<_}
+use Prim.Native.Nat.{ℕ, _+_, _≤_, _<_}
 use native.Mathlib.Omega.{arith}
-use lib.ListN.{length, getD, take, drop, replicate, take-append-drop, length-append, length-replicate, length-drop, length-take}
-use lib.Seq.{take-append-seam, drop-append-seam, length-take-le, drop-drop}
-use lib.Dec.{eqb, leb}
-use borrow.Author.Tests.{eqb-true, eq-eqb, ne-eqb, leb-true, le-leb}
-use Rattle.scan.specs.Bools.{known, Decides, decides-and, decides-or, decides-as, equals}
+use lib.ListN.{length, getD, take, drop, replicate, take-append-drop, length-drop}
+use lib.Seq.{drop-append-seam, drop-drop}
+use lib.Dec.{eqb}
+use borrow.Author.Tests.{eqb-true}
+use Rattle.scan.specs.Bools.{Decides, decides-as}
 use Rattle.scan.specs.declared.Class.the-variants.{Letter, Octal, Alnum}
 use Rattle.scan.specs.Grammar.{G, Derives, run}
 use Rattle.scan.specs.Texts.{opt}
 use Rattle.fields.specs.Fields.{timed, in08, in09, in10, in14, in15, rest16, in18}
-use Rattle.places.specs.Bytes.{high, low, high-of, low-of, each, each-is, numberAt}
-use Rattle.flights.specs.Padding.{trimmed, total, inRow, cutRow, cut-row, row-length, row-take}
-use Rattle.flights.specs.Flight.{Status, filed, active, Handoff, none, offered, accepted, Flight, statusByte, handoffByte, statusOf, handoffOf, widths, textsOf, recordOf, freeRecord, flightOf, Sound, WellFormed}
+use Rattle.places.specs.Bytes.{high-of, low-of, numberAt}
+use Rattle.flights.specs.Padding.{inRow, cutRow, cut-row, row-length, row-take}
+use Rattle.flights.specs.Flight.{Flight, statusByte, handoffByte, statusOf, handoffOf, widths, textsOf, recordOf, flightOf, Sound}
 use Rattle.flights.specs.Records.{texts-neat, status-back, handoff-back, flight-back}
 
 -- the bytes that are no text have values that they may have

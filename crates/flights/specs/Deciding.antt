@@ -1,9 +1,9 @@
 -- Whether a record is that of a flight, by its status.
 use mathlib.Core.Path.{_≡_, refl, sym, ap, _∙_, subst}
 use mathlib.Core.Logic.{_⊎_, inl, inr, ⊎-elim}
-use mathlib.Core.Bool.{Bool, true, false, false≢true}
-use mathlib.Core.List.{List, [], _∷_}
-use Prim.Native.Nat.{ℕ, zero, suc, _-_, _≤_, _<_}
+use mathlib.Core.Bool.{Bool, false, false≢true}
+use mathlib.Core.List.{List}
+use Prim.Native.Nat.{ℕ, zero, suc, _-_, _≤_}
 use native.Mathlib.Omega.{arith}
 use lib.ListN.{length, getD, take, drop, replicate, length-append, length-drop, length-replicate}
 use lib.Seq.{take-all}
@@ -12,7 +12,7 @@ use Rattle.flights.specs.Padding.{inRow, row-length}
 use Rattle.places.specs.Bytes.{each, each-is, numberAt}
 use Rattle.flights.specs.Flight.{Status, filed, active, Handoff, none, offered, accepted, Flight, statusByte, handoffByte, statusOf, handoffOf, widths, textsOf, recordOf, flightOf, Timed, Estimated, Offered, Sound, WellFormed}
 use Rattle.flights.specs.Records.{texts-neat}
-use Rattle.flights.specs.Checked.{Shaped, Used, Texts, Filed, Active, record-shaped, used-is}
+use Rattle.flights.specs.Checked.{Shaped, Used, Texts, Filed, Active, record-shaped}
 
 abbrev pub Common : List ℕ → Type 0
 Common b = ((numberAt 2 b ≤ 999) × Texts (flightOf b)) × (drop 741 b ≡ replicate 27 0)

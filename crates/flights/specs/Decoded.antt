@@ -16,7 +16,7 @@ use Rattle.places.specs.Places.{Places, isFree, get, set, firstOf, used, Every,
 use Rattle.places.specs.Forms.{Form, bytesOr, bytesOf, placesFrom}
 use Rattle.places.specs.Stored.{Kept, Fits, length-places, length-bytes, get-places, bytes-back, places-back, first-places, used-places, places-splice}
 use Rattle.flights.specs.Padding.{inRow}
-use Rattle.flights.specs.Flight.{Status, filed, active, Flight, statusByte, widths, textsOf, recordOf, freeRecord, flightOf, Sound, WellFormed}
+use Rattle.flights.specs.Flight.{Status, filed, active, Flight, statusByte, widths, textsOf, recordOf, flightOf, Sound, WellFormed}
 use Rattle.flights.specs.Records.{texts-neat, flight-back}
 use Rattle.flights.specs.Table.{places, place, free, found, lowestFree, inUse}
 use Rattle.flights.specs.Formed.{TableFormed}
@@ -136,6 +136,3 @@ module _ (t : List ℕ) (i : ℕ) (h : i < places t) (whole : length t ≡ place
 
   pub put-flight : (f : Flight) → Sound f → flightsIn (splice (i * 768) (recordOf f) t) ≡ set i (some f) (flightsIn t)
   put-flight f s = put-place (recordOf f) (some f) (record-long f (neat-fit widths (textsOf f) (texts-neat f s))) (read-record f s)
-
-  pub put-free : flightsIn (splice (i * 768) freeRecord t) ≡ set i none (flightsIn t)
-  put-free = put-place freeRecord none (length-replicate {A = ℕ} 768 0) refl

@@ -1,19 +1,18 @@
 -- WELL FORMED TABLES, by document 01: 1 to 32 places, each well formed, and no two used flights share a key.
 use mathlib.Core.Path.{_≡_, refl, sym, ap, _∙_, subst}
-use mathlib.Core.Logic.{_⊎_, inl, inr, ⊎-elim}
-use mathlib.Core.Bool.{Bool, true, false, not, _&&_, _||_, false≢true}
+use mathlib.Core.Logic.{_⊎_, ⊎-elim}
+use mathlib.Core.Bool.{Bool, true, false, not, _&&_, false≢true}
 use mathlib.Core.List.{List}
-use Prim.Native.Nat.{ℕ, _+_, _-_, _*_, _/_, _≤_, _<_}
+use Prim.Native.Nat.{ℕ, _+_, _-_, _*_, _≤_, _<_}
 use native.Mathlib.Omega.{arith}
 use lib.ListN.{length, take, drop, getD, length-drop}
 use lib.Seq.{length-take-le, getD-take, getD-drop}
-use lib.Dec.{eqb, ltb}
-use borrow.Author.Tests.{eqb-true, eq-eqb, ltb-true, ltb-false, not-true}
-use Rattle.scan.specs.Bools.{known, and-l, and-r, both, Decides, decides-and, decides-as}
+use borrow.Author.Tests.{not-true}
+use Rattle.scan.specs.Bools.{known, Decides, decides-and, decides-as}
 use Rattle.places.specs.Below.{Below}
 use Rattle.flights.specs.Padding.{padded, trimmed, padded-back}
 use Rattle.flights.specs.Flight.{flightOf, WellFormed}
-use Rattle.places.specs.Bytes.{same, same-is}
+use Rattle.places.specs.Bytes.{same, same-is, wordAt}
 use Rattle.flights.specs.Table.{places, place, free, lent}
 
 -- aircraft, departure and destination
@@ -70,12 +69,25 @@ module _ (a b : List ℕ) (p : length a ≡ 768) (q : length b ≡ 768) where
   cut-long : (l : List ℕ) (at w : ℕ) → length l ≡ 768 → at + w ≤ 768 → length (take w (drop at l)) ≡ w
   cut-long l at w n h = length-take-le w (drop at l) (omega (arith, length-drop at l))
 
-  -- aircraft that differ in their first byte
-  pub first-apart : (getD a 6 0 ≡ getD b 6 0 → ⊥) → Decides true (Apart a b)
-  first-apart n = record {
-    yes = λ e u v k.
+  -- of one aircraft every byte is the same
+  byte-at : (l : List ℕ) (n : ℕ) → 6 ≤ n → n < 13 → getD (take 7 (drop 6 l)) (n - 6) 0 ≡ getD l n 0
+  byte-at l n h k =
+      let e : 6 + (n - 6) ≡ n = omega arith in
+      getD-take 7 (drop 6 l) (n - 6) 0 (omega arith) ∙ getD-drop 6 l (n - 6) 0 ∙ ap (λ (m : ℕ). getD l m 0) e
+
+  byte-same : take 7 (drop 6 a) ≡ take 7 (drop 6 b) → (n : ℕ) → 6 ≤ n → n < 13 → getD a n 0 ≡ getD b n 0
+  byte-same s n h k = sym (byte-at a n h k) ∙ ap (λ (l : List ℕ). getD l (n - 6) 0) s ∙ byte-at b n h k
+
+  -- so aircraft that differ in a word are two
+  pub word-apart : (n : ℕ) → 6 ≤ n → n + 4 ≤ 13 → {x y : ℕ} → x ≡ wordAt n a → y ≡ wordAt n b → (x ≡ y → ⊥) → Decides true (Apart a b)
+  word-apart n h l d e f = record {
+    yes = λ z u v k.
         let s : take 7 (drop 6 a) ≡ take 7 (drop 6 b) = whole-text 7 (take 7 (drop 6 a)) (take 7 (drop 6 b)) (cut-long a 6 7 p (omega arith)) (cut-long b 6 7 q (omega arith)) (k .aircraft) in
-        n (sym (getD-take 7 (drop 6 a) 0 0 (omega arith) ∙ getD-drop 6 a 0 0) ∙ ap (λ (l : List ℕ). getD l 0 0) s ∙ (getD-take 7 (drop 6 b) 0 0 (omega arith) ∙ getD-drop 6 b 0 0));
+        let w₀ = byte-same s n h (omega arith) in
+        let w₁ = byte-same s (n + 1) (omega arith) (omega arith) in
+        let w₂ = byte-same s (n + 2) (omega arith) (omega arith) in
+        let w₃ = byte-same s (n + 3) (omega arith) (omega arith) in
+        f (d ∙ (λ i. w₀ i + w₁ i * 256 + w₂ i * 65536 + w₃ i * 16777216) ∙ sym e);
     no = λ h. refl;
   }
 

@@ -1,20 +1,18 @@
 -- A RECORD THAT IS MADE STEP BY STEP: what a call that changes a table writes, as a change of the flight.
 use mathlib.Core.Path.{_≡_, refl, sym, ap, _∙_, subst}
 use mathlib.Core.List.{List, [], _∷_, _++_}
-use mathlib.Core.Option.{some}
 use Prim.Native.Nat.{ℕ, zero, suc, _+_, _*_, _≤_, _<_}
 use native.Mathlib.Omega.{arith}
 use lib.ListN.{length, drop, set, replicate, length-set}
 use lib.Seq.{drop-cons, drop-length}
 use Rattle.splice.specs.Splice.{splice}
 use Rattle.splice.specs.Inside.{splice-behind, splice-same, splice-inside}
-use Rattle.places.specs.Places.{set as setPlace}
 use Rattle.places.specs.Bytes.{high, low}
 use Rattle.flights.specs.Padding.{padded, padded-length, inRow}
-use Rattle.flights.specs.Flight.{Status, filed, active, Handoff, none, offered, accepted, Flight, statusByte, handoffByte, widths, textsOf, recordOf, nth, flightBy, Sound}
+use Rattle.flights.specs.Flight.{Status, filed, active, Handoff, none, offered, accepted, Flight, statusByte, handoffByte, widths, textsOf, recordOf, nth, flightBy}
 use Rattle.flights.specs.Table.{places, place}
 use Rattle.flights.specs.Rows.{AllFit, row-fit, row-put, row-within, widthIn, startIn}
-use Rattle.flights.specs.Decoded.{flightsIn, record-long, put-flight}
+use Rattle.flights.specs.Decoded.{record-long}
 
 -- place i of t was made the record of f, and t so became e
 pub record Made (i : ℕ) (f : Flight) (t e : List ℕ) : Type 0 where
@@ -34,9 +32,6 @@ withStatus s f = flightBy s (f .handoff) (f .first) (f .offer) (textsOf f)
 
 abbrev pub withHandoff : Handoff → Flight → Flight
 withHandoff h f = flightBy (f .status) h (f .first) (f .offer) (textsOf f)
-
-abbrev pub withFirst : ℕ → Flight → Flight
-withFirst n f = flightBy (f .status) (f .handoff) n (f .offer) (textsOf f)
 
 abbrev pub withOffer : ℕ → Flight → Flight
 withOffer n f = flightBy (f .status) (f .handoff) (f .first) n (textsOf f)
@@ -129,17 +124,9 @@ module _ {i : ℕ} {f : Flight} {t e : List ℕ} (m : Made i f t e) where
   unfolding splice
   made-handoff h v u q p = changed (withHandoff h f) 1 (v ∷ []) u (omega arith) (λ j. statusByte (f .status) ∷ q j ∷ drop 2 (recordOf f)) (m .fits) p
 
-  pub made-first : (n : ℕ) (u : List ℕ) → u ≡ splice (i * 768 + 2) (high n ∷ low n ∷ []) e → Made i (withFirst n f) t u
-  unfolding splice
-  made-first n u p = changed (withFirst n f) 2 (high n ∷ low n ∷ []) u (omega arith) refl (m .fits) p
-
   pub made-offer : (n : ℕ) (u : List ℕ) → u ≡ splice (i * 768 + 4) (high n ∷ low n ∷ []) e → Made i (withOffer n f) t u
   unfolding splice
   made-offer n u p = changed (withOffer n f) 4 (high n ∷ low n ∷ []) u (omega arith) refl (m .fits) p
-
-  -- what the table then holds
-  pub made-flights : length t ≡ places t * 768 → Sound f → flightsIn e ≡ setPlace i (some f) (flightsIn t)
-  made-flights w s = ap flightsIn (m .bytes) ∙ put-flight t i (m .within) w f s
 
 -- THE FIRST STEP
 

@@ -1,16 +1,15 @@
 -- Decoding after encoding gives the flight, and encoding after decoding the bytes.
 use mathlib.Core.Path.{_≡_, refl, sym, ap, _∙_}
-use mathlib.Core.Bool.{true}
-use mathlib.Core.List.{List, [], _∷_, _++_}
-use Prim.Native.Nat.{ℕ, _≤_}
+use mathlib.Core.List.{List}
+use Prim.Native.Nat.{ℕ}
 use native.Mathlib.Omega.{arith}
-use lib.ListN.{length, drop, replicate}
+use lib.ListN.{length, replicate}
 use Rattle.scan.specs.declared.Class.the-variants.{Letter, Octal, Alnum}
-use Rattle.scan.specs.Grammar.{isIn, run}
+use Rattle.scan.specs.Grammar.{run}
 use Rattle.scan.specs.Texts.{opt}
 use Rattle.scan.specs.Tests.{nullable, longest}
 use Rattle.fields.specs.Fields.{in08, counted, in09, in10, hour, minute, timed, level3, level4, levelled, bearing, bearingFrom, degrees, minutes, pointed, in14, after15, in15, alternates, rest16, inThree18, inFour18, in18}
-use Rattle.places.specs.Bytes.{two-bytes, numberAt}
+use Rattle.places.specs.Bytes.{two-bytes}
 use Rattle.flights.specs.Padding.{trimmed, Neat, AllNeat, cut-row, row-back}
 use Rattle.flights.specs.Ends.{unblank, neat}
 use Rattle.flights.specs.Flight.{Status, filed, active, Handoff, none, offered, accepted, Flight, statusByte, handoffByte, statusOf, handoffOf, widths, textsOf, recordOf, flightBy, flightOf, Timed, Estimated, Sound}

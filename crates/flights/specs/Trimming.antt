@@ -1,11 +1,11 @@
 -- Blanks passed from the right.
-use mathlib.Core.Path.{_≡_, refl, sym, ap, _∙_}
+use mathlib.Core.Path.{_≡_, sym, ap, _∙_}
 use mathlib.Core.Bool.{true}
 use mathlib.Core.List.{List, [], _∷_, _++_}
-use Prim.Native.Nat.{ℕ, zero, suc, _+_, _-_, _≤_, _<_}
+use Prim.Native.Nat.{ℕ, suc, _+_, _-_, _≤_, _<_}
 use native.Mathlib.Omega.{arith}
 use lib.ListN.{length, take, drop, getD, replicate}
-use lib.Seq.{take-add, take-suc, take-length}
+use lib.Seq.{take-add, take-suc}
 use borrow.Author.Tests.{ne-eqb}
 use Rattle.flights.specs.Padding.{trimmed, trimmed-append}
 use Rattle.places.specs.Bytes.{each, each-is}

@@ -9,7 +9,7 @@ ghost use Rattle.scan.specs.Grammar.{Derives, run};
 ghost use Rattle.scan.specs.Texts.{opt};
 ghost use Rattle.fields.specs.Fields.{timed, in08, in09, in10, in14, in15, rest16, in18};
 ghost use Rattle.splice.specs.Splice.{splice};
-ghost use Rattle.places.specs.Bytes.{each, numberAt, high, low};
+ghost use Rattle.places.specs.Bytes.{high, low};
 ghost use Rattle.places.specs.Below.{Below};
 ghost use Rattle.flights.specs.Padding.{trimmed, padded};
 ghost use Rattle.flights.specs.Stretches.{passed};
@@ -265,7 +265,8 @@ pub fn used(table: &[u8]) -> usize
     count
 }
 
-// Whether two records are not both used with one key. Most keys differ in their first byte.
+// Whether two records are not both used with one key. Most differ in the first or the last four bytes of the aircraft, and a
+// word of four is compared at once.
 fn apart<'a>(a: &'a [u8], b: &'a [u8]) -> bool
     requires { ⌜ (length (now a) ≡ 768) × (length (now b) ≡ 768) ⌝ }
     ensures { λ r. ⌜ Decides r (Apart (now (a .entry)) (now (b .entry))) ⌝ }
@@ -276,7 +277,14 @@ fn apart<'a>(a: &'a [u8], b: &'a [u8]) -> bool
     if b[0] == 0 {
         return true;
     }
-    if a[6] != b[6] {
+    let start = places::word_at(a, 6);
+    let start2 = places::word_at(b, 6);
+    if start != start2 {
+        return true;
+    }
+    let end = places::word_at(a, 9);
+    let end2 = places::word_at(b, 9);
+    if end != end2 {
         return true;
     }
     let aircraft = places::same(&a[6..13], &b[6..13]);

@@ -1,7 +1,7 @@
 -- THE FLIGHT THAT A MESSAGE LEAVES is one that may be, under the message's new key.
 use mathlib.Core.Path.{_≡_, refl, sym, ap, _∙_, subst}
 use mathlib.Core.Logic.{_⊎_, inl, inr}
-use mathlib.Core.Bool.{true, false, not, _&&_, false≢true}
+use mathlib.Core.Bool.{true, not, _&&_, false≢true}
 use mathlib.Core.Option.{Option, none, some}
 use mathlib.Core.List.{List, [], _∷_}
 use Prim.Native.Nat.{ℕ, _≤_}

@@ -16,7 +16,7 @@ use Rattle.rules.specs.Sending.{send, resend, fresh}
 use Rattle.rules.specs.Refusals.{receive-numbered, send-numbered, resend-numbered}
 use Rattle.calls.specs.declared.Outcome.{Outcome}
 use Rattle.calls.specs.Calls.{Called}
-use Rattle.calls.specs.One.{Left, left, sure-left, comes-one, called-one}
+use Rattle.calls.specs.One.{left, sure-left, comes-one, called-one}
 use Rattle.link.specs.SetUp.{Sizes, Names, SetsUp}
 use Rattle.link.specs.Sends.{Sent}
 

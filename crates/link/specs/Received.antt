@@ -14,7 +14,7 @@ use Rattle.unanswered.specs.Waiting.{isAnswer}
 use Rattle.deeds.specs.Message.{Message, messageOf}
 use Rattle.memory.specs.End.{Memory, endOf, waitingIn}
 use Rattle.rules.specs.Replies.{Reply, refused, number}
-use Rattle.rules.specs.Reads.{messageIn, read-message}
+use Rattle.rules.specs.Reads.{read-message}
 use Rattle.rules.specs.Receiving.{directed, waitingAt, settleAt, hearMessage, hear, receiveBy, receive}
 use Rattle.calls.specs.declared.Answer.the-variants.{NotRead, WrongUnits}
 use Rattle.calls.specs.declared.Outcome.{Outcome}

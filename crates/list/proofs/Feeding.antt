@@ -1,14 +1,14 @@
 -- Laws of parts, and of bytes before a line feed. Assumes nothing.
-use mathlib.Core.Path.{_≡_, sym, ap, _∙_}
+use mathlib.Core.Path.{_≡_}
 use mathlib.Core.Bool.{Bool, true, false, cond}
-use mathlib.Core.List.{List, [], _∷_, _++_, append-assoc}
-use Prim.Native.Nat.{ℕ, zero, suc, _+_, _-_, _≤_, _<_, min}
-use native.Mathlib.Nat.{add-assoc, zero-min, suc-min-suc}
+use mathlib.Core.List.{List, [], _∷_, _++_}
+use Prim.Native.Nat.{ℕ, zero, suc, _+_, _-_, _<_, min}
+use native.Mathlib.Nat.{zero-min, suc-min-suc}
 use native.Mathlib.Numerals.{add-one}
 use native.Mathlib.Omega.{arith}
 use lib.Dec.{eqb}
-use lib.ListN.{length, take, drop, getD, set, length-append}
-use lib.Seq.{take-length, take-nil, take-suc, paste, paste-suc, length-take-le, take-add, take-at, drop-at, drop-drop, drop-append-add}
+use lib.ListN.{length, take, drop, getD}
+use lib.Seq.{take-nil, take-suc, take-add}
 use borrow.Author.Tests.{ne-eqb}
 use Rattle.list.specs.Feeds.{feedless}
 

@@ -2,3 +2,4 @@ pub mod Listing
 pub mod Numbers
 pub mod Feeds
 pub mod Progress
+pub mod One

@@ -1,8 +1,8 @@
 -- The scan of a text gives what Reading asks for, and Reading leaves no choice.
 use mathlib.Core.Path.{_≡_, refl, sym, ap, _∙_, subst}
-use mathlib.Core.Logic.{_⊎_, inl, inr, ⊎-elim}
+use mathlib.Core.Logic.{_⊎_, inl, inr}
 use mathlib.Core.Bool.{Bool, true, false, cond, _&&_, false≢true}
-use mathlib.Core.List.{List, [], _∷_}
+use mathlib.Core.List.{List}
 use Prim.Native.Nat.{ℕ, suc, _+_, _-_, _≤_, _<_}
 use native.Mathlib.Omega.{arith}
 use lib.ListN.{length, take, drop, length-take}
@@ -12,11 +12,11 @@ use borrow.Author.Tests.{eqb-true}
 use Rattle.scan.specs.Bools.{and-l, and-r, known}
 use Rattle.scan.specs.declared.Scan.{Scan}
 use Rattle.scan.specs.declared.Span.{Span}
-use Rattle.scan.specs.Grammar.{Derives, Part, Reads, Refusal, none, look}
-use Rattle.scan.specs.Scanner.{from, scanAt, spanOf, spot}
+use Rattle.scan.specs.Grammar.{Derives, Reads, Refusal, none, look}
+use Rattle.scan.specs.Scanner.{from, scanAt, spot}
 use Rattle.scan.specs.Tests.{longest}
 use Rattle.scan.specs.Theory.{place, accepts-of}
-use Rattle.scan.specs.Parts.{reads-derives, derives-reads, one-reading, found, part-within}
+use Rattle.scan.specs.Parts.{reads-derives, one-reading, found, part-within}
 use Rattle.scan.specs.Bounds.{spot-same, refusal-one, refused, short-whole, short-refusal}
 use Rattle.message.specs.declared.Verdict.{Verdict}
 use Rattle.message.specs.declared.Verdict.the-variants.{Read, Refused}

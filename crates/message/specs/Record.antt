@@ -1,8 +1,8 @@
 -- The record of a read text: its type, its numbers and where every part of its fields stands.
-use mathlib.Core.Bool.{Bool, true, false, cond, _&&_}
-use mathlib.Core.List.{List, [], _∷_}
+use mathlib.Core.Bool.{Bool, true, false, cond}
+use mathlib.Core.List.{List}
 use Prim.Native.Nat.{ℕ, zero, suc, _+_, _-_, _*_}
-use lib.ListN.{length, getD, take, drop}
+use lib.ListN.{getD}
 use lib.Dec.{leb, eqb}
 use Rattle.scan.specs.declared.Span.{Span}
 use Rattle.scan.specs.Grammar.{Part, look, none}

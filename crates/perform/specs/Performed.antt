@@ -36,6 +36,10 @@ pub record Written (i : ℕ) (y : Option Flight) (t e : List ℕ) : Type 0 where
   pub bytes : e ≡ splice (i * 768) (bytesOr flightForm y) t
   pub fits : Fits flightForm y
 
+-- which leaves no choice
+pub written-one : {i : ℕ} {y : Option Flight} {t d e : List ℕ} → Written i y t d → Written i y t e → d ≡ e
+written-one p q = p .bytes ∙ sym (q .bytes)
+
 -- WHAT IS HELD
 
 pub sound-fit : (x : Flight) → Sound x → AllFit widths (textsOf x)

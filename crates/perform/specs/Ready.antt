@@ -1,15 +1,13 @@
 -- WHERE A DECISION SAYS THAT A MESSAGE IS DONE: at a place of the table, which is free exactly where the message makes a flight.
 use mathlib.Core.Path.{_≡_, refl, sym, ap, _∙_, subst}
-use mathlib.Core.Logic.{_⊎_, inl, inr, ⊎-elim}
 use mathlib.Core.Bool.{Bool, true, false, cond, false≢true}
 use mathlib.Core.List.{List}
 use mathlib.Core.Option.{Option, none, some}
 use Prim.Native.Nat.{ℕ, _<_}
 use native.Mathlib.Omega.{arith}
-use Rattle.scan.specs.Bools.{known}
 use Rattle.places.specs.declared.Place.{Place}
 use Rattle.places.specs.declared.Place.the-variants.{At, Nowhere}
-use Rattle.places.specs.Places.{isFree, get, found-below, found-has}
+use Rattle.places.specs.Places.{isFree, found-below, found-has}
 use Rattle.places.specs.Stored.{get-places}
 use Rattle.flights.specs.Flight.{Flight, flightOf}
 use Rattle.flights.specs.Table.{places, place, free}
@@ -23,7 +21,7 @@ use Rattle.deeds.specs.Message.{Message}
 use Rattle.deeds.specs.Deeds.{old, deedOf, mayOn, makes, may, becomes}
 use Rattle.deeds.specs.Applying.{whereIs, lowestFree, heldAt, other, orFree, decidedAt, decision, after, applied}
 use Rattle.deeds.specs.Deciding.{found-in, found-flight}
-use Rattle.perform.specs.Performed.{Held, formed-held, Written, done-flights}
+use Rattle.perform.specs.Performed.{Written, done-flights}
 
 pub record Ready (d : Deed) (i : ℕ) (t : List ℕ) : Type 0 where
   pub within : i < places t

@@ -116,6 +116,10 @@ low-of a b h = omega arith
 abbrev pub numberAt : ℕ → List ℕ → ℕ
 numberAt at b = getD b at 0 * 256 + getD b (at + 1) 0
 
+-- four bytes as one number, the first counting least
+abbrev pub wordAt : ℕ → List ℕ → ℕ
+wordAt at b = getD b at 0 + getD b (at + 1) 0 * 256 + getD b (at + 2) 0 * 65536 + getD b (at + 3) 0 * 16777216
+
 -- TESTS OF NUMBERS
 
 pub at-most : (m n : ℕ) → Decides (leb m n) (m ≤ n)

@@ -2,7 +2,7 @@
 ghost use mathlib.Core.Path.{_≡_};
 ghost use Prim.Native.Nat.{_+_, _≤_};
 ghost use lib.ListN.{length};
-ghost use Rattle.places.specs.Bytes.{each, same as sameB, numberAt};
+ghost use Rattle.places.specs.Bytes.{each, same as sameB, numberAt, wordAt};
 
 // Where something is.
 pub enum Place {
@@ -45,4 +45,15 @@ pub fn number_at(b: &[u8], at: usize) -> usize
     ensures { λ r. ⌜ r ≡ numberAt at (now (b .entry)) ⌝ }
 {
     scan::wide(b[at]) * 256 + scan::wide(b[at + 1])
+}
+
+// Four bytes as one number, the first counting least, which the compiler makes one load of.
+pub fn word_at(b: &[u8], at: usize) -> usize
+    requires { ⌜ at + 4 ≤ length (now b) ⌝ }
+    ensures { λ r. ⌜ r ≡ wordAt at (now (b .entry)) ⌝ }
+{
+    scan::wide(b[at])
+        + scan::wide(b[at + 1]) * 256
+        + scan::wide(b[at + 2]) * 65536
+        + scan::wide(b[at + 3]) * 16777216
 }

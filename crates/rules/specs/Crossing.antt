@@ -111,8 +111,3 @@ retires-is m q e = (and-l (isOffering (deedOf q)) (sameKey (old q) (old m)) e, a
 pub retired-sent : (q : Message) (l : Places Flight) → isOffering (deedOf q) ≡ true → settledSent Rla q l ≡ applied q l
 unfolding settledSent isGood isAcceptance
 retired-sent q l a = ap (λ (d : Deed). cond (not (isAcceptance d)) (applied q l) l) (offers (deedOf q) a)
-
-pub retired-done : (m q : Message) (l : Places Flight) (i : ℕ) → retires m q ≡ true → isAcceptance (deedOf m) ≡ true → m .reference ≡ q .number → decision q l ≡ Done i → decision m (settledSent Rla q l) ≡ Done i
-retired-done m q l i e b n h =
-    let r = retires-is m q e in
-    ap (decision m) (retired-sent q l (r .0)) ∙ crossing-applied q m l i (r .0) (r .1) b n h

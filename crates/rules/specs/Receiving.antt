@@ -1,5 +1,5 @@
 -- RECEIVING A TEXT, by document 01's "Rules of an end". Checks 12, 1, 3, then 5, 6 or 4, then 2; 12 stands in Memory.
-use mathlib.Core.Bool.{Bool, true, false, cond, not, _&&_, _||_}
+use mathlib.Core.Bool.{Bool, true, cond, not, _&&_, _||_}
 use mathlib.Core.Option.{Option, none, some}
 use mathlib.Core.List.{List, [], _∷_, _++_}
 use Prim.Native.Nat.{ℕ, _+_}

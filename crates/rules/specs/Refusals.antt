@@ -1,5 +1,4 @@
 -- A REFUSAL HAS A NUMBER of document 01, which is never 0.
-use mathlib.Core.Path.{_≡_, subst}
 use mathlib.Core.Bool.{Bool, true, false, cond, not, _&&_}
 use mathlib.Core.Option.{Option, none, some}
 use mathlib.Core.List.{List}
@@ -22,10 +21,10 @@ use Rattle.deeds.specs.Deeds.{deedOf}
 use Rattle.deeds.specs.Applying.{decision, lowestFree}
 use Rattle.memory.specs.End.{End}
 use Rattle.response.specs.Answering.{answerText}
-use Rattle.rules.specs.Replies.{Refusal, Reply, refused, done, number}
+use Rattle.rules.specs.Replies.{Reply, refused, done, number}
 use Rattle.rules.specs.Reads.{messageIn}
 use Rattle.rules.specs.Answers.{answerTo, proper, isOffering}
-use Rattle.rules.specs.Receiving.{directed, waitingAt, settled, settle, settleHeld, settleAt, hearAnswer, retired, about, handled, giving, hearFirst, raised, hearAgain, hearOld, hearMessage, hear, receiveBy, receive}
+use Rattle.rules.specs.Receiving.{directed, waitingAt, settled, settle, settleHeld, settleAt, retired, about, handled, giving, hearFirst, raised, hearAgain, hearOld, hearMessage, hear, receiveBy, receive}
 use Rattle.rules.specs.Sending.{anyWaiting, tooOld, naming, mayBeSent, fills, sending, sendAt, send, resendHeld, resendAt, resend}
 
 abbrev pub Numbered : Reply → Type 0

@@ -257,7 +257,7 @@ fn same_keys<'a>(w: &'a [u8], k: KeyParts, x: &'a [u8], l: KeyParts) -> bool
 }
 
 // Whether the flights of two messages, by their old keys, are one.
-pub fn same_flight<'a>(w: &'a [u8], r: Record, x: &'a [u8], q: Record) -> bool
+fn same_flight<'a>(w: &'a [u8], r: Record, x: &'a [u8], q: Record) -> bool
     requires { ⌜ Judged (now w) Read r × Judged (now x) Read q ⌝ }
     ensures { λ b. ⌜ b ≡ sameKey (old (messageOf (now (w .entry)) r)) (old (messageOf (now (x .entry)) q)) ⌝ }
 {

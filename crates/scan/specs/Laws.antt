@@ -14,7 +14,7 @@ use borrow.Author.Tests.{lt-ltb, le-ltb, le-leb, lt-leb, ne-eqb, leb-true, ltb-t
 use Rattle.scan.specs.declared.Scan.{Scan}
 use Rattle.scan.specs.declared.Class.{Class}
 use Rattle.scan.specs.declared.Class.the-variants.{Word, Byte, Range, Two}
-use Rattle.scan.specs.Grammar.{isIn, all, G, run}
+use Rattle.scan.specs.Grammar.{isIn, all}
 use Rattle.scan.specs.Bools.{and-l, and-r, both, known}
 use Rattle.scan.specs.Scanner.{scan, runAt, runScan, wordsAt, wordsScan}
 

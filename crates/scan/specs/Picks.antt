@@ -6,17 +6,16 @@ use mathlib.Core.Bool.{Bool, true, false, cond, _&&_, _||_, false≢true}
 use mathlib.Core.List.{List, [], _∷_, _++_, head-eq-of-cons-eq, tail-eq-of-cons-eq}
 use Prim.Native.Nat.{ℕ, zero, suc, _+_, _-_, _≤_, _<_}
 use native.Mathlib.Omega.{arith}
-use lib.ListN.{length, getD, take, drop}
+use lib.ListN.{length, getD, take}
 use lib.Dec.{leb, ltb}
 use borrow.Author.Tests.{lt-ltb, le-ltb, le-leb, leb-true, ltb-true, ltb-false}
 use Rattle.scan.specs.Bools.{and-l, and-r, both, or-split, or-l, or-r, neither, known}
 use Rattle.scan.specs.declared.Scan.{Scan}
-use Rattle.scan.specs.declared.Span.{Span}
 use Rattle.scan.specs.declared.Class.{Class}
 use Rattle.scan.specs.declared.Class.the-variants.{Word, Byte}
-use Rattle.scan.specs.Grammar.{Ranges, has, ranges, isIn, G, eps, run, words, seq, alt, part, field, Derives, none}
+use Rattle.scan.specs.Grammar.{Ranges, has, ranges, isIn, G, eps, run, words, seq, alt, part, field}
 use Rattle.scan.specs.Texts.{one, byte, lit}
-use Rattle.scan.specs.Scanner.{runAt, runScan, wordsAt, wordsScan, longer, leads, scan, from, scanAt, spanBy, spot}
+use Rattle.scan.specs.Scanner.{runAt, runScan, wordsAt, wordsScan, leads, scan, from, scanAt, spanBy, spot}
 use Rattle.scan.specs.Tests.{good, heads, differ, apart, bytes, longest}
 use Rattle.scan.specs.Theory.{apart-off, right, skip, ok-before}
 use Rattle.scan.specs.Parts.{Fits, heads-sound, longer-is}

@@ -1,6 +1,6 @@
 -- The scanner of a grammar: it goes from where the last one stopped if that was whole, and else stays.
 -- The code mirrors it; nothing public cites it.
-use mathlib.Core.Bool.{Bool, true, false, cond, not, _&&_, _||_}
+use mathlib.Core.Bool.{Bool, true, false, cond, _&&_, _||_}
 use mathlib.Core.List.{List, [], _∷_}
 use Prim.Native.Nat.{ℕ, zero, suc, _+_, _-_, _%_}
 use lib.ListN.{length, getD}

@@ -2,12 +2,11 @@
 -- a text has one reading only, `longest` bounds the texts.
 use mathlib.Core.Bool.{Bool, true, false, cond, not, _&&_, _||_}
 use mathlib.Core.List.{List, [], _∷_, _++_}
-use Prim.Native.Nat.{ℕ, zero, suc, _+_, max}
-use lib.ListN.{length, replicate}
-use lib.Dec.{leb, ltb, eqb}
-use Rattle.scan.specs.declared.Class.{Class}
+use Prim.Native.Nat.{ℕ, _+_, max}
+use lib.ListN.{replicate}
+use lib.Dec.{leb, ltb}
 use Rattle.scan.specs.declared.Class.the-variants.{Word}
-use Rattle.scan.specs.Grammar.{Ranges, has, ranges, isIn, G, eps, run, words, seq, alt, part, field}
+use Rattle.scan.specs.Grammar.{Ranges, ranges, isIn, G, eps, run, words, seq, alt, part, field}
 use Rattle.scan.specs.Scanner.{among, occurs}
 
 unfoldable pub nullable : G → Bool

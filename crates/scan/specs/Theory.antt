@@ -10,7 +10,7 @@ use lib.ListN.{length, getD, take, drop, replicate, take-append-drop, length-app
 use lib.Seq.{drop-cons, drop-drop, drop-append-seam, take-append-seam, length-take-le, take-length}
 use lib.Dec.{leb, ltb, eqb}
 use Rattle.scan.specs.Bools.{and-l, and-r, both, or-split, or-l, or-r, known}
-use borrow.Author.Tests.{ltb-true, ltb-false, leb-true, leb-false, le-leb, lt-ltb, le-ltb, eqb-true, eq-eqb}
+use borrow.Author.Tests.{ltb-true, leb-true, le-leb, lt-ltb, le-ltb, eqb-true, eq-eqb}
 use Rattle.scan.specs.declared.Scan.{Scan}
 use Rattle.scan.specs.declared.Class.{Class}
 use Rattle.scan.specs.declared.Class.the-variants.{Word, Byte}

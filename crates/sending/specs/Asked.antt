@@ -1,5 +1,5 @@
 -- WHAT IS ASKED OF THE UNANSWERED MESSAGES, place by place.
-use mathlib.Core.Path.{_≡_, refl, sym, ap, _∙_, subst}
+use mathlib.Core.Path.{_≡_, refl, sym, ap, _∙_}
 use mathlib.Core.Bool.{Bool, true, false, cond, not, _&&_, _||_}
 use mathlib.Core.List.{List, [], _∷_}
 use mathlib.Core.Option.{none, some}
@@ -10,10 +10,8 @@ use lib.Seq.{drop-drop}
 use lib.Dec.{eqb, leb}
 use borrow.Author.Tests.{eq-eqb, ne-eqb}
 use Rattle.message.specs.declared.Record.{Record}
-use Rattle.message.specs.declared.Verdict.{Verdict}
 use Rattle.message.specs.declared.Verdict.the-variants.{Read}
 use Rattle.message.specs.Reading.{Judged}
-use Rattle.message.specs.Reader.{judged-one}
 use Rattle.places.specs.Places.{Places}
 use Rattle.places.specs.Forms.{placesFrom}
 use Rattle.places.specs.Bytes.{numberAt}

@@ -52,11 +52,6 @@ splice-over at x y d e h =
     let m : length (take at d ++ y) ≡ at + length x = length-append (take at d) y ∙ omega arith in
     rw (drop-at (take at d ++ y) (drop (at + length y) d) (at + length x) m, append-assoc (take at d) y (drop (at + length y) d), take-at (take at d) (y ++ drop (at + length y) d) at l, e)
 
--- a part that was lent comes back
-pub part-back : (a k : ℕ) (ys d : List ℕ) → length ys ≡ k → take a d ++ (ys ++ drop k (drop a d)) ≡ splice a ys d
-unfolding splice
-part-back a k ys d e = rw (← e, drop-drop) (simp append-assoc)
-
 -- what is left of a front, with what stands behind the front
 drop-join : (m n : ℕ) (l : List ℕ) → m ≤ n → n ≤ length l → drop m (take n l) ++ drop n l ≡ drop m l
 drop-join m n l h k =

@@ -1,6 +1,6 @@
 -- What the clauses on bytes that are written cite.
 use Prim.Native.Nat.{ℕ, _+_}
-use mathlib.Core.Path.{_≡_}
+use mathlib.Core.Path.{_≡_, sym, _∙_}
 use mathlib.Core.List.{List, _++_}
 use lib.ListN.{length, take, drop}
 
@@ -12,3 +12,7 @@ splice at s d = take at d ++ s ++ drop (at + length s) d
 pub record Spliced (at : ℕ) (s d e : List ℕ) (next : ℕ) : Type 0 where
   pub bytes : e ≡ splice at s d
   pub place : next ≡ at + length s
+
+-- which leaves no choice
+pub spliced-one : {at : ℕ} {s d e f : List ℕ} {m n : ℕ} → Spliced at s d e m → Spliced at s d f n → (e ≡ f) × (m ≡ n)
+spliced-one p q = (p .bytes ∙ sym (q .bytes), p .place ∙ sym (q .place))

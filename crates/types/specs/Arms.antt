@@ -1,9 +1,9 @@
 -- A text's first four bytes pick the message that it can be.
 use mathlib.Core.Path.{_≡_, refl, sym, ap, _∙_}
 use mathlib.Core.Logic.{_⊎_, inl, inr, ⊎-elim}
-use mathlib.Core.Bool.{Bool, true, false, cond, not, _&&_, _||_, false≢true}
+use mathlib.Core.Bool.{Bool, true, false, cond, not, _&&_, false≢true}
 use mathlib.Core.List.{List, [], _∷_, head-eq-of-cons-eq, tail-eq-of-cons-eq}
-use Prim.Native.Nat.{ℕ, zero, suc, _+_, _-_, _≤_, _<_}
+use Prim.Native.Nat.{ℕ, suc, _+_, _-_, _≤_, _<_}
 use native.Mathlib.Omega.{arith}
 use native.Mathlib.Numerals.{add-one}
 use lib.ListN.{length, getD, take, drop, length-drop}
@@ -11,12 +11,11 @@ use lib.Seq.{drop-cons}
 use lib.Dec.{leb, ltb, eqb}
 use borrow.Author.Tests.{lt-ltb, le-ltb, ltb-true, leb-true, le-leb, eqb-true, eq-eqb, not-true}
 use Rattle.scan.specs.declared.Scan.{Scan}
-use Rattle.scan.specs.declared.Span.{Span}
 use Rattle.scan.specs.declared.Class.the-variants.{Byte}
-use Rattle.scan.specs.Bools.{and-l, and-r, both, known}
+use Rattle.scan.specs.Bools.{and-l, and-r, known}
 use Rattle.scan.specs.Grammar.{isIn, G, seq, alt, none}
 use Rattle.scan.specs.Texts.{lit, byte}
-use Rattle.scan.specs.Scanner.{runAt, runScan, scan, from, scanAt, longer, leads, occurs, between16, spanBy, spot}
+use Rattle.scan.specs.Scanner.{runAt, runScan, scan, from, scanAt, longer, leads, occurs, spanBy, spot}
 use Rattle.scan.specs.Theory.{skip}
 use Rattle.scan.specs.Bounds.{scan-forth, spot-stays}
 use Rattle.types.specs.declared.Scanned.{Scanned}

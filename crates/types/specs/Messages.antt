@@ -1,5 +1,5 @@
 -- The ten messages of document 01, line by line of its table, as grammars.
-use mathlib.Core.List.{List, [], _∷_}
+use mathlib.Core.List.{[], _∷_}
 use Prim.Native.Nat.{ℕ}
 use Rattle.scan.specs.declared.Class.the-variants.{Digit}
 use Rattle.scan.specs.Grammar.{G, run, alt, part}

@@ -1,6 +1,5 @@
 -- The ten messages as arms, picked by the three letters of the type.
 use mathlib.Core.Path.{_≡_, refl, sym, ap, _∙_}
-use mathlib.Core.Bool.{true}
 use mathlib.Core.List.{List, [], _∷_, head-eq-of-cons-eq}
 use Prim.Native.Nat.{ℕ, _+_, _*_, _≤_, _<_}
 use native.Mathlib.Omega.{arith}
@@ -10,7 +9,7 @@ use Rattle.scan.specs.Scanner.{scanAt}
 use Rattle.types.specs.declared.Scanned.{Scanned}
 use Rattle.types.specs.Messages.{fpl, cpl, est, chg, cnl, rti, rta, rla, lam, lrm, message}
 use Rattle.types.specs.Scanned.{partsOf, scannedBy}
-use Rattle.types.specs.Arms.{Arm, led-lit, led-seq, altOf, keysOf, Misses, all-miss, missed, once, armOf, picked}
+use Rattle.types.specs.Arms.{Arm, led-lit, led-seq, altOf, keysOf, Misses, all-miss, missed, picked}
 
 unfoldable pub fplArm : Arm
 unfolding fpl

@@ -14,7 +14,6 @@ use Rattle.types.specs.declared.Parts.{Parts}
 use Rattle.types.specs.declared.Heading.{Heading}
 use Rattle.types.specs.declared.Leading.{Leading}
 use Rattle.types.specs.declared.Scanned.{Scanned}
-use Rattle.types.specs.Messages.{opened, referring}
 
 -- where every part stands, f saying where the part of a name does
 abbrev pub partsOf : (ℕ → Span) → Parts

@@ -9,7 +9,7 @@ use native.Mathlib.Omega.{arith}
 use lib.ListN.{length, take, drop, getD, length-drop}
 use lib.Seq.{getD-take, getD-drop, length-take-le}
 use lib.Dec.{eqb}
-use borrow.Author.Tests.{not-true, eq-eqb, ne-eqb}
+use borrow.Author.Tests.{not-true}
 use Rattle.scan.specs.Bools.{known, Decides, decides-as, equals}
 use Rattle.places.specs.Below.{Below, one-more}
 use Rattle.places.specs.Bytes.{numberAt}

@@ -1,6 +1,6 @@
 -- How two records are held against each other.
 use mathlib.Core.Path.{_≡_, refl, sym, ap, _∙_, subst}
-use mathlib.Core.Logic.{_⊎_, inl, inr, ⊎-elim}
+use mathlib.Core.Logic.{_⊎_, ⊎-elim}
 use mathlib.Core.Bool.{Bool, true, false, cond, _&&_, false≢true}
 use mathlib.Core.List.{List, [], _∷_, _++_}
 use Prim.Native.Nat.{ℕ}
@@ -21,7 +21,6 @@ use Rattle.message.specs.declared.Level.{Level}
 use Rattle.message.specs.declared.PlanFigures.{PlanFigures}
 use Rattle.message.specs.declared.Figures.{Figures}
 use Rattle.message.specs.declared.Record.{Record}
-use Rattle.message.specs.declared.Verdict.{Verdict}
 use Rattle.message.specs.declared.Verdict.the-variants.{Read, Refused}
 use Rattle.message.specs.Reading.{Judged}
 use Rattle.message.specs.Reader.{one-record, derived-read}

@@ -2,7 +2,6 @@
 -- reads back with parts of the same lengths is the record's.
 use mathlib.Core.Path.{_≡_, refl, sym, ap, _∙_, subst}
 use mathlib.Core.Logic.{⊎-elim}
-use mathlib.Core.Bool.{true}
 use mathlib.Core.List.{List}
 use Prim.Native.Nat.{ℕ, _≤_}
 use native.Mathlib.Omega.{arith}
@@ -21,10 +20,10 @@ use Rattle.message.specs.declared.Verdict.the-variants.{Read}
 use Rattle.message.specs.Record.{kindOf}
 use Rattle.message.specs.Reading.{cut, Judged}
 use Rattle.message.specs.Reader.{one-record}
-use Rattle.compose.specs.Layout.{laid, Told, Tells, find, text-is, parts-are}
+use Rattle.compose.specs.Layout.{Told, Tells, find, text-is, parts-are}
 use Rattle.compose.specs.Listed.{spanOf, Inside}
 use Rattle.compose.specs.Composed.{orderOf, sizes, bytesIn, composed}
-use Rattle.compose.specs.Recorded.{partNames, isMessage, order-told, order-plain, order-names, nameless, cut-size, its, its-order, its-kind, its-bytes, its-inside, its-size}
+use Rattle.compose.specs.Recorded.{partNames, order-told, order-plain, order-names, nameless, cut-size, its, its-order, its-kind, its-bytes, its-size}
 use Rattle.writer.specs.Writing.{Content, Writes}
 
 -- THE RECORD'S PARTS, LAID OUT
@@ -49,9 +48,6 @@ module _ (d : List ℕ) (r : Record) (w : List ℕ) (x : Writes d r w) where
 
   pub text-short : length w ≤ 1077
   text-short = omega (arith, derives-short message w (reads-derives message 0 w (x .read .0) (x .read .1)), message-longest)
-
-  pub text-kind : isMessage (r .kind) ≡ true
-  text-kind = sym (ap isMessage same-kind) ∙ its-order w (x .its) (x .read) .is
 
 -- what the writer holds against each other: a record that was read back, and the one that was to be written
 pub record Alike (q r : Record) : Type 0 where

@@ -1,12 +1,12 @@
 -- What the writer's steps come to.
 use mathlib.Core.Path.{_≡_, refl, sym, ap, _∙_, subst}
-use mathlib.Core.Logic.{_⊎_, inl, inr, ⊎-elim}
+use mathlib.Core.Logic.{_⊎_, inl, ⊎-elim}
 use mathlib.Core.Bool.{Bool, true, false, false≢true}
 use mathlib.Core.List.{List, [], _∷_, _++_}
-use Prim.Native.Nat.{ℕ, _+_, _≤_, _<_}
+use Prim.Native.Nat.{ℕ, _+_, _≤_}
 use native.Mathlib.Omega.{arith}
 use lib.ListN.{length, take, drop}
-use lib.Seq.{length-take-le, take-append-seam, drop-append-seam}
+use lib.Seq.{length-take-le, take-append-seam}
 use borrow.Author.Tests.{eqb-true}
 use Rattle.scan.specs.declared.Span.{Span}
 use Rattle.scan.specs.Scanner.{among}
@@ -24,7 +24,7 @@ use Rattle.compose.specs.Listed.{spanOf, Inside}
 use Rattle.writer.specs.Writing.{contentOf, Writes, Wrote}
 use Rattle.compose.specs.Recorded.{partNames, nameless, its-inside}
 use Rattle.writer.specs.Writer.{text-of, text-short, text-alike, alike-text}
-use Rattle.compose.specs.Laying.{AllInside, Stands, Adds, start, opening, blocks, spans, join}
+use Rattle.compose.specs.Laying.{AllInside, Stands, Adds, start, opening, blocks, spans}
 use Rattle.scan.specs.Bools.{or-split, known, Decides}
 use Rattle.writer.specs.Comparing.{Back}
 use Rattle.compose.specs.Composed.{composed, composed-is}

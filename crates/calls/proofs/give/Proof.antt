@@ -1,6 +1,5 @@
 -- `calls::give` meets its contract.
 use borrow.Author.Needs.{needs}
-use native.Mathlib.Omega.{arith}
 use Rattle.calls.specs.Giving.{gave, gave-none}
 use Rattle.calls.proofs.give.Statement.{statement}
 use Rattle.calls.proofs.give.Tie as tie

@@ -1,9 +1,7 @@
-use mathlib.Core.Path.{ap, _∙_}
-use mathlib.Core.List.{List}
-use Rattle.scan.specs.declared.Scan.{Scan}
+use mathlib.Core.Path.{_∙_}
 use Rattle.scan.specs.Picks.{so}
 use Rattle.changes.specs.Changes.{from09}
-use Rattle.changes.specs.Found.{found22, opt-on, opt-off}
+use Rattle.changes.specs.Found.{opt-on, opt-off}
 use Rattle.changes.proofs.after08.Statement.{statement}
 use Rattle.changes.proofs.after08.Tie as tie
 

@@ -1,5 +1,4 @@
 use borrow.Author.Needs.{needs}
-use mathlib.Core.Path.{_∙_}
 use Rattle.scan.specs.Scanner.{among, occurs, spanBy}
 use Rattle.changes.specs.Changes.{from18}
 use Rattle.changes.specs.Found.{found22}

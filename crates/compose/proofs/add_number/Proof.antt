@@ -1,8 +1,6 @@
 -- `compose::add_number` meets its contract.
 use borrow.Author.Needs.{needs}
-use mathlib.Core.Path.{sym, ap, _∙_}
-use mathlib.Core.List.{[], _∷_, _++_, append-nil}
-use native.Mathlib.Omega.{arith}
+use mathlib.Core.List.{append-nil}
 use Rattle.message.specs.Reading.{cut}
 use Rattle.compose.specs.Laying.{then, alike, textNumber}
 use Rattle.compose.proofs.add_number.Statement.{statement}

@@ -1,7 +1,7 @@
 -- `compose::add_pair` meets its contract.
 use borrow.Author.Needs.{needs}
-use mathlib.Core.Path.{sym, ap, _∙_}
-use mathlib.Core.List.{[], _∷_, _++_, append-nil}
+use mathlib.Core.Path.{sym, _∙_}
+use mathlib.Core.List.{[], _∷_, append-nil}
 use native.Mathlib.Omega.{arith}
 use Rattle.message.specs.Reading.{cut}
 use Rattle.compose.specs.Laying.{skipped, stands, then, own-part}

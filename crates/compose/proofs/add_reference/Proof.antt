@@ -1,9 +1,8 @@
 -- `compose::add_reference` meets its contract.
 use borrow.Author.Needs.{needs}
-use mathlib.Core.Path.{sym, ap, _∙_}
-use mathlib.Core.List.{[], _∷_, _++_, append-nil}
+use mathlib.Core.Path.{sym, _∙_}
+use mathlib.Core.List.{[], _∷_, append-nil}
 use native.Mathlib.Omega.{arith}
-use Rattle.message.specs.Reading.{cut}
 use Rattle.compose.specs.Laying.{skipped, stands, textNumber}
 use Rattle.compose.proofs.add_reference.Statement.{statement}
 use Rattle.compose.proofs.add_reference.Tie as tie

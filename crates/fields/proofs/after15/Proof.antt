@@ -3,7 +3,7 @@ use mathlib.Core.List.{[], _∷_}
 use native.Mathlib.Omega.{arith}
 use Rattle.scan.specs.declared.Class.the-variants.{Digit, Of}
 use Rattle.scan.specs.Grammar.{run}
-use Rattle.scan.specs.Texts.{lit, one, _⨾_}
+use Rattle.scan.specs.Texts.{lit, one}
 use Rattle.scan.specs.Bounds.{forth}
 use Rattle.scan.specs.Picks.{so}
 use Rattle.fields.specs.Chosen.{after-three, after-four, after-vfr}

@@ -1,6 +1,6 @@
 use mathlib.Core.Path.{ap, _∙_}
 use Rattle.scan.specs.Scanner.{scan, among, occurs, spanBy}
-use Rattle.scan.specs.declared.Class.the-variants.{Letter, Byte}
+use Rattle.scan.specs.declared.Class.the-variants.{Letter}
 use Rattle.scan.specs.Grammar.{run, words}
 use Rattle.scan.specs.Texts.{byte}
 use Rattle.fields.specs.Fields.{inThree18, inFour18}

@@ -1,11 +1,10 @@
 -- `flights::apart_from_lower` meets its contract.
 use borrow.Author.Needs.{needs}
 use mathlib.Core.Path.{_≡_, subst}
-use mathlib.Core.List.{List}
 use Prim.Native.Nat.{ℕ, _≤_, _-_}
 use native.Mathlib.Omega.{arith}
 use Rattle.scan.specs.Bools.{Decides}
-use Rattle.flights.specs.Table.{place, lent, lent-long}
+use Rattle.flights.specs.Table.{place, lent-long}
 use Rattle.places.specs.Below.{Below, none-below, one-more}
 use Rattle.flights.specs.Formed.{Apart, on-places}
 use Rattle.flights.proofs.apart_from_lower.Statement.{statement}

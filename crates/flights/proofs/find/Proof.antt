@@ -1,9 +1,7 @@
 -- `flights::find` meets its contract.
 use borrow.Author.Needs.{needs}
 use mathlib.Core.Path.{_≡_, sym, ap, _∙_}
-use mathlib.Core.List.{List}
 use Prim.Native.Nat.{ℕ, _≤_, _-_, _/_}
-use native.Mathlib.Omega.{arith}
 use lib.ListN.{length}
 use Rattle.places.specs.Search.{firstFrom, from-first, first-here, first-next, first-none}
 use Rattle.flights.specs.Table.{place, hasKey, lent, lent-long}

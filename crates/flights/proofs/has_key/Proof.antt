@@ -1,10 +1,10 @@
 -- `flights::has_key` meets its contract.
 use borrow.Author.Needs.{needs}
-use mathlib.Core.Path.{_≡_, refl, sym, ap, _∙_}
+use mathlib.Core.Path.{sym, ap, _∙_}
 use mathlib.Core.Bool.{_&&_}
 use mathlib.Core.List.{List}
 use Prim.Native.Nat.{ℕ}
-use borrow.Author.Tests.{eq-eqb, ne-eqb, not-true, not-false}
+use borrow.Author.Tests.{not-true, not-false}
 use Rattle.places.specs.Bytes.{same}
 use Rattle.flights.specs.Table.{key-free, key-other, key-rest}
 use Rattle.flights.proofs.has_key.Statement.{statement}

@@ -1,6 +1,5 @@
 -- `flights::is_well_formed` meets its contract.
 use borrow.Author.Needs.{needs}
-use native.Mathlib.Omega.{arith}
 use Rattle.flights.specs.Deciding.{wrong-length, free-is, flight-is}
 use Rattle.flights.proofs.is_well_formed.Statement.{statement}
 use Rattle.flights.proofs.is_well_formed.Tie as tie

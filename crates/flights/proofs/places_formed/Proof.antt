@@ -1,9 +1,8 @@
 -- `flights::places_formed` meets its contract.
 use borrow.Author.Needs.{needs}
 use mathlib.Core.Path.{_≡_, subst}
-use Prim.Native.Nat.{ℕ, _≤_, _-_, _/_}
+use Prim.Native.Nat.{ℕ, _≤_, _-_}
 use native.Mathlib.Omega.{arith}
-use lib.ListN.{length}
 use Rattle.scan.specs.Bools.{Decides, decides-and}
 use Rattle.flights.specs.Flight.{WellFormed}
 use Rattle.flights.specs.Table.{place, places}

@@ -1,6 +1,6 @@
 -- `flights::text_length` meets its contract: what was passed are blanks.
 use borrow.Author.Needs.{needs}
-use mathlib.Core.Path.{_≡_, refl, sym, ap, _∙_}
+use mathlib.Core.Path.{_≡_, sym, ap, _∙_}
 use borrow.Author.Tests.{not-false}
 use Prim.Native.Nat.{_≤_}
 use native.Mathlib.Omega.{arith}

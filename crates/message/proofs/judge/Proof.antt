@@ -1,5 +1,4 @@
 use Rattle.message.specs.Record.{blank}
-use Rattle.message.specs.declared.Verdict.the-variants.{Read}
 use Rattle.message.specs.Reader.{read-verdict, refused-judged, verdict-only, place-within}
 use mathlib.Core.Path.{refl}
 use Rattle.message.proofs.judge.Statement.{statement}

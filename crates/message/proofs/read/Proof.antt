@@ -1,10 +1,6 @@
-use mathlib.Core.Path.{sym, ap, _∙_}
-use native.Mathlib.Omega.{arith}
-use borrow.Author.Needs.{needs}
-use Rattle.types.specs.Messages.{message}
+use mathlib.Core.Path.{_∙_}
 use Rattle.types.specs.Scanned.{scannedBy}
 use Rattle.message.specs.Record.{figuresOf}
-use Rattle.types.specs.declared.Scanned.{Scanned}
 use Rattle.message.specs.Reader.{read-judged, refused-judged, place-within}
 use Rattle.message.proofs.read.Statement.{statement}
 use Rattle.message.proofs.read.Tie as tie

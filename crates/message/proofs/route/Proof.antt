@@ -1,6 +1,5 @@
 use mathlib.Core.Path.{ap, _∙_, subst, sym}
-use mathlib.Core.List.{List}
-use Prim.Native.Nat.{ℕ, _+_, _≤_}
+use Prim.Native.Nat.{_+_, _≤_}
 use lib.ListN.{length}
 use Rattle.scan.specs.declared.Span.{Span}
 use Rattle.message.specs.Reading.{cut, route}

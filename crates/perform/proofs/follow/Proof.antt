@@ -1,14 +1,11 @@
 -- `perform::follow` meets its contract.
 use borrow.Author.Needs.{needs}
-use mathlib.Core.Path.{_≡_, sym, ap, _∙_, subst}
-use mathlib.Core.List.{List}
+use mathlib.Core.Path.{sym, ap, _∙_}
 use Prim.Native.Nat.{ℕ}
-use Rattle.deeds.specs.declared.Deed.{Deed}
 use Rattle.deeds.specs.Message.{messageOf}
-use Rattle.deeds.specs.Deeds.{makes, becomes}
-use Rattle.flights.specs.Table.{place, free}
-use Rattle.flights.specs.Decoded.{readFlight}
-use Rattle.perform.specs.Performed.{Written, formed-held}
+use Rattle.deeds.specs.Deeds.{makes}
+use Rattle.flights.specs.Table.{place}
+use Rattle.perform.specs.Performed.{formed-held}
 use Rattle.perform.specs.Ready.{ready, followed, left-failing, left-full}
 use Rattle.perform.proofs.follow.Statement.{statement}
 use Rattle.perform.proofs.follow.Tie as tie

@@ -1,6 +1,5 @@
 use borrow.Author.Needs.{needs}
 use borrow.Author.Tests.{not-true, not-false}
-use Rattle.scan.specs.declared.Class.the-variants.{Byte}
 use Rattle.scan.specs.Laws.{run-skip, is-byte, no-byte, one-past, one-on, one-off}
 use Rattle.scan.proofs.byte.Statement.{statement}
 use Rattle.scan.proofs.byte.Tie as tie

@@ -1,5 +1,4 @@
 use borrow.Author.Needs.{needs}
-use Prim.Native.Nat.{_+_, _≤_}
 use borrow.Author.Tests.{not-true, not-false}
 use Rattle.scan.specs.Laws.{run-skip, exact-fits, exact-whole, exact-short}
 use Rattle.scan.proofs.exactly.Statement.{statement}

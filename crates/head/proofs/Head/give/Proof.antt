@@ -1,7 +1,4 @@
 -- `head::Head::give` meets its contract.
-use mathlib.Core.Path.{ap}
-use Prim.Native.Nat.{ℕ}
-use Rattle.head.specs.declared.Given.{Given}
 use Rattle.head.proofs.Head.give.Statement.{statement}
 use Rattle.head.proofs.Head.give.Tie as tie
 

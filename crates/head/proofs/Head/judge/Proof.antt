@@ -1,7 +1,6 @@
 -- `head::Head::judge` meets its contract.
 use borrow.Author.Needs.{needs}
 use mathlib.Core.Path.{sym}
-use native.Mathlib.Omega.{arith}
 use Rattle.head.specs.Head.{is-same, is-new, is-stale, is-old}
 use Rattle.head.proofs.Head.judge.Statement.{statement}
 use Rattle.head.proofs.Head.judge.Tie as tie
