@@ -1,4 +1,5 @@
-/* Compares two implementations of reader, writer and link: A is ref (link.c), B is proved.
+/* Compares two implementations of reader, writer and link: A is ref (link.c), B is proved; and the library's checks of lent
+   memory with those of memory.c.
 
        compare [SEED [TEXTS [CALLS]]]
 
@@ -12,8 +13,10 @@
 #include <sys/mman.h>
 #include <unistd.h>
 
+#include "../include/pamiqsun.h"
 #include "drafts.h"
 #include "ends.h"
+#include "memory.h"
 #include "texts.h"
 
 enum { A, B };
@@ -877,6 +880,32 @@ static void compare_receive(void)
     if (m.n > 0 && memcmp(text_in.at, m.text, m.n) != 0) differ(RECEIVE, "the text", 0);
 }
 
+/* THE CHECKS, of all that is lent and part by part: those that the library has beside the calls. */
+static unsigned long checks_compared, checks_failed;
+
+static void check_agrees(const char *what, int formed, size_t number)
+{
+    checks_compared++;
+    if (!formed) checks_failed++;
+    if (number == (formed ? 0 : PAMIQSUN_NOT_FORMED)) return;
+    printf("the checks differ on %s: in C %d, %lu\n", what, formed, (unsigned long)number);
+    exit(1);
+}
+
+static void compare_checks(void)
+{
+    const struct buffer *m = lent[B], *table = &m[once_in(2) ? SENT : RECEIVED];
+    check_agrees("all", pq_memory(MEMORY_OF(B)), pamiqsun_is_formed(MEMORY_OF(B)));
+    check_agrees("a table", pq_flights(table->at, table->len), pamiqsun_is_table(table->at, table->len));
+    if (table->len >= REF_FLIGHT) {
+        size_t last = (table->len / REF_FLIGHT - 1) * REF_FLIGHT;
+        check_agrees("a flight", pq_flights(table->at + last, REF_FLIGHT), pamiqsun_is_flight(table->at + last, REF_FLIGHT));
+    }
+    check_agrees("unanswered messages", m[HEAD].len == REF_HEAD && pq_waiting(LENT_TO(B, WAITING), m[HEAD].at),
+                 pamiqsun_is_unanswered(LENT_TO(B, HEAD), LENT_TO(B, WAITING)));
+    check_agrees("answers", pq_answers(LENT_TO(B, ANSWERS)), pamiqsun_is_answers(LENT_TO(B, ANSWERS)));
+}
+
 static void compare_resend(void)
 {
     const uint8_t *w = some_waiting();
@@ -884,6 +913,7 @@ static void compare_resend(void)
     int i, is_now = choose_memory();
     if (once_in(20)) number += (uint64_t)1 << (16 + chance(48));        /* the same in its low bits */
     place_memory();
+    compare_checks();
     begin_call(some_room(w ? number_in(w + 3) : 0), 1, 0);
     for (i = A; i <= B; i++)
         outcomes[i].number = implementations[i].resend(number, MEMORY_OF(i), LENT_TO(i, OUT), &outcomes[i].length);
@@ -963,6 +993,7 @@ int main(int argc, char **argv)
     compare_calls(calls);
     printf("%s and %s: %lu texts, %lu calls of the link, all the same\n", implementations[A].name, implementations[B].name,
            texts_compared, calls);
+    printf("%lu checks of lent memory, %lu of them refused, the same\n", checks_compared, checks_failed);
     report();
     return missing;
 }

@@ -65,6 +65,47 @@ static void wrong_buffers(void)
     }
 }
 
+/* A fresh end is well formed in each part; a damaged part is told, and a null pointer is refused. */
+static void checks_of_parts(const struct lent *l)
+{
+    must(pamiqsun_checked_is_formed(l->head, PAMIQSUN_HEAD, l->sent, TABLE, l->received, TABLE, l->unanswered, PAMIQSUN_UNANSWERED,
+                                    l->answers, PAMIQSUN_ANSWERS) == PAMIQSUN_DONE, "all is well formed");
+    must(pamiqsun_checked_is_formed(l->head, PAMIQSUN_HEAD, NULL, TABLE, l->received, TABLE, l->unanswered, PAMIQSUN_UNANSWERED,
+                                    l->answers, PAMIQSUN_ANSWERS) == PAMIQSUN_NOT_FORMED, "no table is refused");
+    must(pamiqsun_checked_is_flight(l->sent, PAMIQSUN_FLIGHT) == PAMIQSUN_DONE, "a free record is well formed");
+    must(pamiqsun_checked_is_flight(NULL, PAMIQSUN_FLIGHT) == PAMIQSUN_NOT_FORMED, "no record is refused");
+    must(pamiqsun_checked_is_table(l->sent, TABLE) == PAMIQSUN_DONE, "a table is well formed");
+    must(pamiqsun_checked_is_table(l->sent, TABLE - 1) == PAMIQSUN_NOT_FORMED, "a table of another size is not");
+    must(pamiqsun_checked_is_table(NULL, TABLE) == PAMIQSUN_NOT_FORMED, "no table is refused");
+    must(pamiqsun_checked_is_unanswered(l->head, PAMIQSUN_HEAD, l->unanswered, PAMIQSUN_UNANSWERED) == PAMIQSUN_DONE,
+         "nothing unanswered is well formed");
+    must(pamiqsun_checked_is_unanswered(l->head, PAMIQSUN_HEAD - 1, l->unanswered, PAMIQSUN_UNANSWERED) == PAMIQSUN_NOT_FORMED,
+         "a head of another size is refused");
+    must(pamiqsun_checked_is_unanswered(NULL, PAMIQSUN_HEAD, l->unanswered, PAMIQSUN_UNANSWERED) == PAMIQSUN_NOT_FORMED,
+         "no head is refused");
+    must(pamiqsun_checked_is_answers(l->answers, PAMIQSUN_ANSWERS) == PAMIQSUN_DONE, "no answers are well formed");
+    l->answers[3] = 58;
+    must(pamiqsun_checked_is_answers(l->answers, PAMIQSUN_ANSWERS) == PAMIQSUN_NOT_FORMED, "58 is no answer");
+    l->answers[3] = 0;
+    must(pamiqsun_checked_is_answers(NULL, PAMIQSUN_ANSWERS) == PAMIQSUN_NOT_FORMED, "nothing for the answers is refused");
+}
+
+/* Where words stand: in the text, or 0 and 0; a number over the text is refused. */
+static void words(const struct lent *l)
+{
+    static const char text[] = "(FPLKZMP/CZWG000-N10-IS-B738/M-S/C-KSEA0930-N0450F350 J20 SEA-CYOW0430-DOF/121115)";
+    const uint8_t *t = (const uint8_t *)text;
+    size_t start = 7, length = 7;
+    must(pamiqsun_checked_route(t, sizeof text - 1, &start, &length) == PAMIQSUN_DONE && length == 7 && memcmp(t + start, "J20 SEA", 7) == 0,
+         "the words of field 15");
+    must(pamiqsun_checked_other(t, sizeof text - 1, &start, &length) == PAMIQSUN_DONE && length == 6 && memcmp(t + start, "121115", 6) == 0,
+         "the words of field 18");
+    must(pamiqsun_checked_route(t, 10, &start, &length) == PAMIQSUN_NOT_READ && start == 0 && length == 0, "no message has none");
+    must(pamiqsun_checked_route(NULL, 1, &start, &length) == PAMIQSUN_NOT_FORMED, "no text is refused");
+    must(pamiqsun_checked_other(l->out, 20, (size_t *)(void *)l->out, &length) == PAMIQSUN_NOT_FORMED, "a number over the text is refused");
+    must(pamiqsun_checked_other(t, sizeof text - 1, &start, &start) == PAMIQSUN_NOT_FORMED, "two numbers in one place are refused");
+}
+
 int main(void)
 {
     struct lent l = apart();
@@ -75,6 +116,8 @@ int main(void)
          "a fresh end is set up");
     must(pamiqsun_is_formed(l.head, PAMIQSUN_HEAD, l.sent, TABLE, l.received, TABLE, l.unanswered, PAMIQSUN_UNANSWERED, l.answers,
                             PAMIQSUN_ANSWERS) == PAMIQSUN_DONE, "and is well formed");
+    checks_of_parts(&l);
+    words(&l);
     must(receive(&l, text, sizeof text - 1, &length) == PAMIQSUN_NOTHING_UNANSWERED, "an answer to nothing is refused by 5");
     must(length == 0, "with length 0");
     wrong_buffers();

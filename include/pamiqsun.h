@@ -114,10 +114,16 @@ size_t pamiqsun_set_up(const uint8_t *ours, size_t ours_len, const uint8_t *part
                        size_t head_len, uint8_t *sent, size_t sent_len, uint8_t *received, size_t received_len,
                        uint8_t *unanswered, size_t unanswered_len, uint8_t *answers, size_t answers_len);
 
-/* THE CHECK: 0 where head and memory are well formed, else 12. */
+/* THE CHECKS: 0 where what is lent is well formed, else 12. All of it: */
 size_t pamiqsun_is_formed(const uint8_t *head, size_t head_len, const uint8_t *sent, size_t sent_len, const uint8_t *received,
                           size_t received_len, const uint8_t *unanswered, size_t unanswered_len, const uint8_t *answers,
                           size_t answers_len);
+/* and by itself one record of a flight, one table of flights, the unanswered messages beside the head whose names they have, and
+   the answers, to tell which of them is damaged. */
+size_t pamiqsun_is_flight(const uint8_t *flight, size_t flight_len);
+size_t pamiqsun_is_table(const uint8_t *table, size_t table_len);
+size_t pamiqsun_is_unanswered(const uint8_t *head, size_t head_len, const uint8_t *unanswered, size_t unanswered_len);
+size_t pamiqsun_is_answers(const uint8_t *answers, size_t answers_len);
 
 /* SENDING what a packed record says, whose parts lie in the bytes d, under the next number; its own number is not looked at.
    The text to send comes in out. 12, 13, 8, 9, 7, 10, 11, 2. */
@@ -204,6 +210,58 @@ static inline size_t pamiqsun_checked_write(const uint8_t *d, size_t d_len, cons
     if (!pamiqsun_are_apart(lent, PAMIQSUN_COUNT(lent)))
         return pamiqsun_refuse(lent, PAMIQSUN_COUNT(lent), 1);
     return pamiqsun_write(d, d_len, record, record_len, out, out_len, length);
+}
+
+static inline size_t pamiqsun_checked_route(const uint8_t *text, size_t text_len, size_t *start, size_t *length)
+{
+    const struct pamiqsun_lent lent[] = {{text, text_len, 0}, {start, sizeof *start, 1}, {length, sizeof *length, 1}};
+    if (!pamiqsun_are_apart(lent, PAMIQSUN_COUNT(lent)))
+        return pamiqsun_refuse(lent, PAMIQSUN_COUNT(lent), 2);
+    return pamiqsun_route(text, text_len, start, length);
+}
+
+static inline size_t pamiqsun_checked_other(const uint8_t *text, size_t text_len, size_t *start, size_t *length)
+{
+    const struct pamiqsun_lent lent[] = {{text, text_len, 0}, {start, sizeof *start, 1}, {length, sizeof *length, 1}};
+    if (!pamiqsun_are_apart(lent, PAMIQSUN_COUNT(lent)))
+        return pamiqsun_refuse(lent, PAMIQSUN_COUNT(lent), 2);
+    return pamiqsun_other(text, text_len, start, length);
+}
+
+/* The checks read only, so that null pointers are all that can be wrong. */
+static inline size_t pamiqsun_checked_is_formed(const uint8_t *head, size_t head_len, const uint8_t *sent, size_t sent_len,
+                                                const uint8_t *received, size_t received_len, const uint8_t *unanswered,
+                                                size_t unanswered_len, const uint8_t *answers, size_t answers_len)
+{
+    const struct pamiqsun_lent lent[] = {{head, head_len, 0}, {sent, sent_len, 0}, {received, received_len, 0}, {unanswered, unanswered_len, 0},
+                                         {answers, answers_len, 0}};
+    if (!pamiqsun_are_apart(lent, PAMIQSUN_COUNT(lent)))
+        return PAMIQSUN_NOT_FORMED;
+    return pamiqsun_is_formed(head, head_len, sent, sent_len, received, received_len, unanswered, unanswered_len, answers, answers_len);
+}
+
+static inline size_t pamiqsun_checked_is_flight(const uint8_t *flight, size_t flight_len)
+{
+    return flight == NULL && flight_len != 0 ? (size_t)PAMIQSUN_NOT_FORMED : pamiqsun_is_flight(flight, flight_len);
+}
+
+static inline size_t pamiqsun_checked_is_table(const uint8_t *table, size_t table_len)
+{
+    return table == NULL && table_len != 0 ? (size_t)PAMIQSUN_NOT_FORMED : pamiqsun_is_table(table, table_len);
+}
+
+static inline size_t pamiqsun_checked_is_unanswered(const uint8_t *head, size_t head_len, const uint8_t *unanswered,
+                                                    size_t unanswered_len)
+{
+    const struct pamiqsun_lent lent[] = {{head, head_len, 0}, {unanswered, unanswered_len, 0}};
+    if (!pamiqsun_are_apart(lent, PAMIQSUN_COUNT(lent)))
+        return PAMIQSUN_NOT_FORMED;
+    return pamiqsun_is_unanswered(head, head_len, unanswered, unanswered_len);
+}
+
+static inline size_t pamiqsun_checked_is_answers(const uint8_t *answers, size_t answers_len)
+{
+    return answers == NULL && answers_len != 0 ? (size_t)PAMIQSUN_NOT_FORMED : pamiqsun_is_answers(answers, answers_len);
 }
 
 static inline size_t pamiqsun_checked_set_up(const uint8_t *ours, size_t ours_len, const uint8_t *partners, size_t partners_len,

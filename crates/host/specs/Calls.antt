@@ -12,6 +12,7 @@ use Rattle.message.specs.Reading.{Judged, answerOf}
 use Rattle.writer.specs.declared.Writing.{Writing}
 use Rattle.writer.specs.Writing as w
 use Rattle.head.specs.declared.Head.{Head}
+use Rattle.unanswered.specs.Waiting.{UnansweredFormed}
 use Rattle.memory.specs.End.{Memory, Formed}
 use Rattle.rules.specs.Receiving.{receive}
 use Rattle.rules.specs.Sending.{resend}
@@ -65,10 +66,18 @@ pub record Resent (k : ℕ) (b : List ℕ) (m : Memory) (out : List ℕ) (n l : 
   pub sized : length b ≡ 12 → (o : Outcome) × Called (resend (length out) k) (headIn b) m out o m out′ × (n ≡ refusalIn (o .answer) .number) × (l ≡ lengthIn (o .answer))
   pub unsized : (length b ≡ 12 → ⊥) → (n ≡ 12) × (out′ ≡ out) × (l ≡ 0)
 
--- THE CHECK: 0 where all that is lent is well formed, else 12
-pub record Checked (b : List ℕ) (m : Memory) (n : ℕ) : Type 0 where
-  pub formed : length b ≡ 12 → Formed (headIn b) m → n ≡ 0
-  pub damaged : (length b ≡ 12 → Formed (headIn b) m → ⊥) → n ≡ 12
+-- A CHECK: 0 where what is lent is well formed, else 12
+pub record Checked (P : Type 0) (n : ℕ) : Type 0 where
+  pub formed : P → n ≡ 0
+  pub damaged : (P → ⊥) → n ≡ 12
+
+-- of all that is lent for a link, with its head in b
+abbrev pub LinkFormed : List ℕ → Memory → Type 0
+LinkFormed b m = (length b ≡ 12) × Formed (headIn b) m
+
+-- of its unanswered messages, by the names in that head
+abbrev pub WaitingFormed : List ℕ → List ℕ → Type 0
+WaitingFormed b t = (length b ≡ 12) × UnansweredFormed (headIn b .ours) (headIn b .partners) t
 
 -- READER AND WRITER
 

@@ -95,10 +95,9 @@ resend-one {b} {m} {out} {n} {l} {out′} {k} {i} {out″} number x y = go (of-s
         let g = y .unsized z in
         λ j. rest ((f .0 ∙ sym (g .0)) j) ((f .2 ∙ sym (g .2)) j) 0 0 m ((f .1 ∙ sym (g .1)) j)
 
--- THE CHECK
-pub checked-one : (b : List ℕ) (m : Memory) (n k : ℕ) → Checked b m n → Checked b m k → n ≡ k
-checked-one b m n k x y =
-    same-number n k (λ d. d (x .damaged (λ z f. d (x .formed z f ∙ sym (y .formed z f))) ∙ sym (y .damaged (λ z f. d (x .formed z f ∙ sym (y .formed z f))))))
+-- A CHECK
+pub checked-one : {P : Type 0} (n k : ℕ) → Checked P n → Checked P k → n ≡ k
+checked-one n k x y = same-number n k (λ d. d (x .damaged (λ p. d (x .formed p ∙ sym (y .formed p))) ∙ sym (y .damaged (λ p. d (x .formed p ∙ sym (y .formed p))))))
 
 -- READER, WRITER AND WORDS
 

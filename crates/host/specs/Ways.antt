@@ -1,10 +1,12 @@
 -- How a call comes out.
 use mathlib.Core.Path.{_≡_, refl, sym, ap, _∙_, subst}
+use mathlib.Core.Bool.{Bool, true, false, cond, false≢true}
 use mathlib.Core.List.{List, _++_}
 use Prim.Native.Nat.{ℕ, _≤_}
 use native.Mathlib.Omega.{arith}
 use lib.ListN.{length, drop, drop-of-length-le}
 use Rattle.scan.specs.declared.Span.{Span}
+use Rattle.scan.specs.Bools.{Decides, decides-as}
 use Rattle.message.specs.declared.Record.{Record}
 use Rattle.message.specs.declared.Verdict.{Verdict}
 use Rattle.message.specs.declared.Verdict.the-variants.{Read, Refused}
@@ -12,7 +14,7 @@ use Rattle.message.specs.Reading.{Judged}
 use Rattle.writer.specs.declared.Writing.{Writing}
 use Rattle.writer.specs.Writing.{Wrote, answerOf}
 use Rattle.head.specs.declared.Head.{Head}
-use Rattle.memory.specs.End.{Memory, Formed}
+use Rattle.memory.specs.End.{Memory}
 use Rattle.rules.specs.Sending.{resend}
 use Rattle.calls.specs.declared.Outcome.{Outcome}
 use Rattle.calls.specs.Calls.{refusalIn, lengthIn, Called}
@@ -42,17 +44,18 @@ resent {k} {b} {m} {out} {n} {l} {out′} h o z e d x y = record {
   unsized = λ w. absurd (w z);
 }
 
-pub is-formed : {b : List ℕ} {m : Memory} (h : Head) → length b ≡ 12 → h ≡ headIn b → Formed h m → Checked b m 0
-is-formed {b} {m} h z e f = record {
-  formed = λ _ _. refl;
-  damaged = λ k. absurd (k z (subst (λ (x : Head). Formed x m) e f));
-}
+-- CHECKS
 
-pub is-damaged : {b : List ℕ} {m : Memory} (h : Head) → h ≡ headIn b → (Formed h m → ⊥) → Checked b m 12
-is-damaged {b} {m} h e k = record {
-  formed = λ _ f. absurd (k (subst (λ (x : Head). Formed x m) (sym e) f));
-  damaged = λ _. refl;
-}
+pub checked-by : {P : Type 0} {n : ℕ} (v : Bool) → Decides v P → n ≡ cond v 0 12 → Checked P n
+checked-by true d e = record { formed = λ _. e; damaged = λ k. absurd (k (d .yes refl)) }
+checked-by false d e = record { formed = λ p. absurd (false≢true (d .no p)); damaged = λ _. e }
+
+-- with a head in b
+pub checked-beside : (P : Head → Type 0) (b : List ℕ) {n : ℕ} (h : Head) (v : Bool) → length b ≡ 12 → h ≡ headIn b → Decides v (P h) → n ≡ cond v 0 12 → Checked ((length b ≡ 12) × P (headIn b)) n
+checked-beside P b h v z e d = checked-by v (decides-as (λ p. (z, subst P e p)) (λ q. subst P (sym e) (q .1)) d)
+
+pub no-head : {Q : Type 0} (b : List ℕ) → (length b ≡ 12 → ⊥) → Checked ((length b ≡ 12) × Q) 12
+no-head b k = record { formed = λ q. absurd (k (q .0)); damaged = λ _. refl }
 
 -- READER AND WRITER
 

@@ -1,12 +1,16 @@
 // What the bench host in C calls.
 ghost use mathlib.Core.Path.{_≡_};
+ghost use mathlib.Core.Bool.{cond};
 ghost use lib.ListN.{length};
 ghost use Rattle.message.specs.Reading.{route as routeOf, other as otherOf};
 ghost use Rattle.writer.specs.Writing.{answerOf as writtenOf};
+ghost use Rattle.flights.specs.Flight.{WellFormed};
+ghost use Rattle.flights.specs.Formed.{TableFormed};
+ghost use Rattle.answers.specs.Given.{AnswersFormed};
 ghost use Rattle.memory.specs.End.{lent};
 ghost use Rattle.calls.specs.Calls.{refusalIn, lengthIn};
 ghost use Rattle.host.specs.Head.{headIn, headBytes};
-ghost use Rattle.host.specs.Calls.{Receives, Sends, SetUp, Resent, Checked, ReadInto, WroteFrom, WordsAt};
+ghost use Rattle.host.specs.Calls.{Receives, Sends, SetUp, Resent, Checked, LinkFormed, WaitingFormed, ReadInto, WroteFrom, WordsAt};
 use calls::Answer;
 use head::Head;
 use message::Verdict;
@@ -233,6 +237,16 @@ pub extern "C" fn pamiqsun_other(text: &[u8], at: &mut usize, size: &mut usize) 
     }
 }
 
+// What a check found, by document 01's numbers.
+fn found(ok: bool) -> usize
+    ensures { λ n. ⌜ n ≡ cond ok 0 12 ⌝ }
+{
+    if ok {
+        return 0;
+    }
+    12
+}
+
 // THE CHECK of all that is lent for a link.
 #[no_mangle]
 pub extern "C" fn pamiqsun_is_formed(
@@ -242,15 +256,47 @@ pub extern "C" fn pamiqsun_is_formed(
     unanswered: &[u8],
     answers: &[u8],
 ) -> usize
-    ensures { λ n. ⌜ Checked (now (head .entry)) (lent (now (sent .entry)) (now (received .entry)) (now (unanswered .entry)) (now (answers .entry))) n ⌝ }
+    ensures { λ n. ⌜ Checked (LinkFormed (now (head .entry)) (lent (now (sent .entry)) (now (received .entry)) (now (unanswered .entry)) (now (answers .entry)))) n ⌝ }
 {
     if head.len() != 12 {
         return 12;
     }
-    if memory::is_sound(head_in(head), sent, received, unanswered, answers) {
-        return 0;
+    found(memory::is_sound(head_in(head), sent, received, unanswered, answers))
+}
+
+// And the checks of what is lent, part by part, so that a host can tell which is damaged.
+#[no_mangle]
+pub extern "C" fn pamiqsun_is_flight(flight: &[u8]) -> usize
+    ensures { λ n. ⌜ Checked (WellFormed (now (flight .entry))) n ⌝ }
+{
+    found(flights::is_well_formed(flight))
+}
+
+#[no_mangle]
+pub extern "C" fn pamiqsun_is_table(table: &[u8]) -> usize
+    ensures { λ n. ⌜ Checked (TableFormed (now (table .entry))) n ⌝ }
+{
+    found(flights::is_table(table))
+}
+
+#[no_mangle]
+pub extern "C" fn pamiqsun_is_unanswered(head: &[u8], unanswered: &[u8]) -> usize
+    ensures { λ n. ⌜ Checked (WaitingFormed (now (head .entry)) (now (unanswered .entry))) n ⌝ }
+{
+    if head.len() != 12 {
+        return 12;
     }
-    12
+    let h = head_in(head);
+    let ours = h.ours;
+    let partners = h.partners;
+    found(unanswered::is_unanswered(unanswered, &ours, &partners))
+}
+
+#[no_mangle]
+pub extern "C" fn pamiqsun_is_answers(answers: &[u8]) -> usize
+    ensures { λ n. ⌜ Checked (AnswersFormed (now (answers .entry))) n ⌝ }
+{
+    found(answers::is_answers(answers))
 }
 
 // SETTING UP an end, over whatever stands in the memory.
