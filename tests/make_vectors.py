@@ -617,8 +617,8 @@ def main(examples, by_hand, vectors, guide):
     with open(guide, "w") as out:
         out.write(
             "# Test vectors for the reader\n\n"
-            "Each line of `crates/vectors/stdin` is a text, which may hold any byte but 10; the "
-            "line of `crates/vectors/stdout` with the same number says what it should get: its "
+            "Each line of `tests/vectors.txt` is a text, which may hold any byte but 10; the "
+            "line of `tests/vectors-listing.txt` with the same number says what it should get: its "
             "type where it is read, else place and hyphens. "
             "What the first two groups should get comes from their own sources (the examples of "
             "source document 001, and `by-hand.txt` with the reason for each); that of the "

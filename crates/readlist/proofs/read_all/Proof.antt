@@ -1,9 +1,9 @@
--- `console::read_all` is safe and ends. The measure is the number of turns that are left. Assumes nothing.
+-- `readlist::read_all` is safe and ends. The measure is the number of turns that are left. Assumes nothing.
 use borrow.Author.Needs.{needs}
 use mathlib.Core.Path.{_≡_, refl}
 use lib.ListN.{length}
-use Rattle.console.proofs.read_all.Statement.{statement}
-use Rattle.console.proofs.read_all.Tie as tie
+use Rattle.readlist.proofs.read_all.Statement.{statement}
+use Rattle.readlist.proofs.read_all.Tie as tie
 
 abbrev Inv-loop : tie.InvT-loop
 Inv-loop line₀ input₀ out₀ tally₀ turns₀ line input out tally turns = (length input ≡ length input₀) × (length out ≡ length out₀)

@@ -1,11 +1,11 @@
--- `console::list_input` is safe and ends. Assumes nothing.
+-- `readlist::main` is safe and ends. Assumes nothing.
 use borrow.Author.Needs.{needs}
 use mathlib.Core.Path.{sym}
 use mathlib.Core.List.{[]}
 use native.Mathlib.Omega.{arith}
 use lib.Seq.{length-take-le}
-use Rattle.console.proofs.list_input.Statement.{statement}
-use Rattle.console.proofs.list_input.Tie as tie
+use Rattle.readlist.proofs.main.Statement.{statement}
+use Rattle.readlist.proofs.main.Tie as tie
 
 slice-aggregate-write-all : tie.Need-slice-aggregate-write-all
 slice-aggregate-write-all c =
@@ -20,8 +20,8 @@ slice-aggregate-write-all-3 c =
     let f = c .before .before .broke in
     sym (length-take-le (f .result) (f .last .1 .0) (omega (arith, f .ensures [] .fits, f .kept .1 .0)))
 
-pub list-input-spec : {M : Type 1} → statement M
-list-input-spec =
+pub main-spec : {M : Type 1} → statement M
+main-spec =
     tie.close
     (tie.spec
     (λ c κs. search needs)

@@ -1,12 +1,12 @@
--- `console::list_piece` is safe and ends: what is left of the piece falls with each step. Assumes nothing.
+-- `readlist::list_piece` is safe and ends: what is left of the piece falls with each step. Assumes nothing.
 use borrow.Author.Needs.{needs}
 use mathlib.Core.Path.{_≡_, refl, sym}
 use Prim.Native.Nat.{_+_, _-_, _≤_}
 use native.Mathlib.Omega.{arith}
 use lib.ListN.{length, drop, length-take, length-drop}
 use lib.Seq.{length-take-le}
-use Rattle.console.proofs.list_piece.Statement.{statement}
-use Rattle.console.proofs.list_piece.Tie as tie
+use Rattle.readlist.proofs.list_piece.Statement.{statement}
+use Rattle.readlist.proofs.list_piece.Tie as tie
 
 abbrev Inv-loop : tie.InvT-loop
 Inv-loop line₀ piece out₀ tally₀ at₀ line out tally at = (at ≤ length piece) × (length out ≡ length out₀)
