@@ -78,32 +78,35 @@ static void prepare(unsigned flights, unsigned waiting)
     }
 }
 
-/* Words of a letter, until the text has n bytes or there are 285 of them. */
-static size_t words(char *to, size_t have, size_t n, char letter)
+/* Words of a letter, until the text has n bytes or there are so many of them. */
+static size_t words(char *to, size_t have, size_t n, size_t most, char letter)
 {
     size_t i;
-    for (i = 0; i == 0 || (have + 1 < n && i < 285); i++, have++) to[have] = i % 9 == 8 ? ' ' : letter;
+    for (i = 0; i == 0 || (have + 1 < n && i < most); i++, have++) to[have] = i % 9 == 8 ? ' ' : letter;
     if (to[have - 1] == ' ') to[have - 1] = letter;
     return have;
 }
 
-/* A text of about n bytes: a LAM, an FPL with the words of its fields 15 and 18, or a CHG with a field 18 of its own and both. */
+/* A text of about n bytes: a LAM, an FPL with the words of its fields 15 and 18, or a CHG with a field 18 of its own and both, which
+   has 1,077 bytes with every field as long as it may be: none is longer. */
 static size_t text_of(char *to, size_t n)
 {
+    enum { IN_15 = 290, IN_18 = 296 };
     size_t have;
     if (n < 90) return (size_t)sprintf(to, "(LAMCZWG/KZMP000KZMP/CZWG000)");
     if (n < 640) {
         have = (size_t)sprintf(to, "(FPLKZMP/CZWG000-N10-I-B738/M-S/C-KSEA0930-N0450F350 ");
-        have = words(to, have, n - 30, 'A');
+        have = words(to, have, n - 30, IN_15, 'A');
         have += (size_t)sprintf(to + have, "-CYOW-DOF/");
     } else {
-        have = (size_t)sprintf(to, "(CHGKZMP/CZWG000KZMP/CZWG000-N10-KSEA-CYOW-DOF/");
-        have = words(to, have, n, 'A');
-        have += (size_t)sprintf(to + have, "-10/SDE1FGHIJ12345678901234567890123456789/ABCDEFGHIJ-13/KSEA0930-15/N0450F350 ");
-        have = words(to, have, n, 'B');
+        have = (size_t)sprintf(to, "(CHGKZMP/CZWG000KZMP/CZWG000-N123456-KSEA0930-CYOW-DOF/");
+        have = words(to, have, n, IN_18, 'A');
+        have += (size_t)sprintf(to + have, "-08/IS-09/99B738/M-10/SDE1FGHIJ1234567890123456789012345678901/ABCDEFGHIJ1234567890"
+                                           "-13/KSEA0930-15/N0450F350 ");
+        have = words(to, have, n, IN_15, 'B');
         have += (size_t)sprintf(to + have, "-16/CYOW0430 CYUL CYYZ-18/DOF/");
     }
-    have = words(to, have, n, 'C');
+    have = words(to, have, n, IN_18, 'C');
     to[have++] = ')';
     return have;
 }
