@@ -21,8 +21,8 @@ use Rattle.message.specs.declared.Kind.the-variants.{Rti, Rla}
 use Rattle.message.specs.declared.Record.{Record}
 use Rattle.message.specs.declared.Verdict.the-variants.{Read}
 use Rattle.message.specs.Record.{figure, figureAt, figureIn}
-use Rattle.message.specs.Reading.{cut, Judged}
-use Rattle.message.specs.Reader.{verdict, verdict-only}
+use Rattle.reader.specs.Reading.{cut, Judged}
+use Rattle.reader.specs.Reader.{verdict, verdict-only}
 use Rattle.unanswered.specs.Encoded.{read-short}
 use Rattle.compose.specs.Layout.{laid, told, Tells}
 use Rattle.compose.specs.Order.{same}

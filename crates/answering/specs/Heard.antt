@@ -21,7 +21,7 @@ use Rattle.message.specs.declared.Kind.the-variants.{Rla, Lam, Lrm}
 use Rattle.message.specs.declared.Record.{Record}
 use Rattle.message.specs.declared.Verdict.the-variants.{Read}
 use Rattle.message.specs.Record.{figure, kindOf, recordOf}
-use Rattle.message.specs.Reading.{cut, Judged}
+use Rattle.reader.specs.Reading.{cut, Judged}
 use Rattle.response.specs.Answering.{numberText}
 
 -- t is read as a message of the type k, with the digits d in its number, which is from x to y, and in its reference, which is

@@ -125,7 +125,7 @@ fn from16(s: &[u8], r: Scan) -> Found22
         }
         return nothing(a);
     }
-    let f = fields::field16(s, a);
+    let f = plan_fields::field16(s, a);
     let e = f.end;
     let t = after16(s, e);
     let end = t.end;
@@ -165,7 +165,7 @@ fn from15(s: &[u8], r: Scan) -> Found22
         }
         return nothing(a);
     }
-    let f = fields::field15(s, a);
+    let f = plan_fields::field15(s, a);
     let e = f.end;
     let t = after15(s, e);
     let end = t.end;
@@ -203,7 +203,7 @@ fn from13(s: &[u8], r: Scan) -> Found22
         }
         return nothing(a);
     }
-    let f = fields::field13(s, a);
+    let f = plan_fields::field13(s, a);
     let e = f.end;
     let t = after13(s, e);
     let end = t.end;
@@ -239,7 +239,7 @@ fn from10(s: &[u8], r: Scan) -> Found22
         }
         return nothing(a);
     }
-    let f = fields::field10(s, a);
+    let f = plan_fields::field10(s, a);
     let e = f.end;
     let t = after10(s, e);
     let end = t.end;
@@ -275,7 +275,7 @@ fn from09(s: &[u8], r: Scan) -> Found22
         }
         return nothing(a);
     }
-    let f = fields::field09(s, a);
+    let f = plan_fields::field09(s, a);
     let e = f.end;
     let t = after09(s, e);
     let end = t.end;
@@ -313,7 +313,7 @@ fn from08(s: &[u8], r: Scan) -> Found22
         }
         return nothing(a);
     }
-    let f = fields::field08(s, a);
+    let f = plan_fields::field08(s, a);
     let e = f.end;
     let t = after08(s, e);
     let end = t.end;
@@ -341,7 +341,7 @@ fn changes(s: &[u8], r: Scan) -> Found22
         }
         return nothing(a);
     }
-    let f = fields::field07(s, a);
+    let f = plan_fields::field07(s, a);
     let end = f.end;
     let mut plan = no_plan();
     let aircraft = f.aircraft;
@@ -415,7 +415,7 @@ fn with_three18(s: &[u8], r: Scan) -> FoundTail
 {
     let a = scan::letters(s, r, 3);
     let b = scan::byte(s, a, b'/');
-    let c = scan::words(s, b, 296);
+    let c = words::words(s, b, 296);
     let f = changes(s, scan::byte(s, c, b'-'));
     let end = f.end;
     let plan = f.plan;
@@ -433,7 +433,7 @@ fn with_four18(s: &[u8], r: Scan) -> FoundTail
 {
     let a = scan::letters(s, r, 4);
     let b = scan::byte(s, a, b'/');
-    let c = scan::words(s, b, 295);
+    let c = words::words(s, b, 295);
     let f = changes(s, scan::byte(s, c, b'-'));
     let end = f.end;
     let plan = f.plan;

@@ -11,9 +11,9 @@ use Rattle.message.specs.declared.Record.{Record}
 use Rattle.compose.specs.Layout.{filled, only, isNil, takesFirst, first, laid}
 use Rattle.compose.specs.Order.{ordered}
 use Rattle.scan.specs.Grammar.{G}
-use Rattle.message.specs.Reading.{cut}
-use Rattle.compose.specs.Listed.{spanOf}
-use Rattle.compose.specs.Laying.{join, opening, blocks}
+use Rattle.reader.specs.Reading.{cut}
+use Rattle.pen.specs.Listed.{spanOf}
+use Rattle.pen.specs.Laying.{join, opening, blocks}
 
 -- THE ORDER OF A TYPE
 

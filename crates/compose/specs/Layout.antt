@@ -18,7 +18,7 @@ use Rattle.scan.specs.Grammar.{all, G, eps, run, words, seq, alt, part, field, 
 use Rattle.scan.specs.Scanner.{among, occurs}
 use Rattle.scan.specs.Tests.{nullable, names, strange, covers, plain}
 use Rattle.scan.specs.Theory.{null-sound, good-a, good-b}
-use Rattle.message.specs.Reading.{cut}
+use Rattle.reader.specs.Reading.{cut}
 use Rattle.scan.specs.Parts.{among-on, named, covers-sound, strange-sound}
 
 -- WHAT IS LAID OUT

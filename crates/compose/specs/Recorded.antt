@@ -25,10 +25,10 @@ use Rattle.message.specs.declared.Kind.the-variants.{None, Fpl, Cpl, Est, Chg, 
 use Rattle.message.specs.declared.Record.{Record}
 use Rattle.message.specs.declared.Verdict.the-variants.{Read}
 use Rattle.message.specs.Record.{kindOf}
-use Rattle.message.specs.Reading.{cut, Judged}
+use Rattle.reader.specs.Reading.{cut, Judged}
 use Rattle.compose.specs.Layout.{only, isNil, first, sure, single, pieces, sameBool, samePieces, even, told, Told, Tells, find, telling, find-telling, reading-tells, absent-part, given-run}
 use Rattle.compose.specs.Order.{ordered, Within, in-fpl, in-cpl, in-est, in-chg, in-cnl, in-rti, in-rta, in-rla, in-lam, in-lrm}
-use Rattle.compose.specs.Listed.{partsIn, spanOf, Inside}
+use Rattle.pen.specs.Listed.{partsIn, spanOf, Inside}
 use Rattle.compose.specs.Composed.{orderOf}
 
 -- The order passes the computed tests

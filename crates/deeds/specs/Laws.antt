@@ -15,8 +15,8 @@ use Rattle.message.specs.declared.Kind.{Kind}
 use Rattle.message.specs.declared.Kind.the-variants.{None, Fpl, Cpl, Est, Chg, Cnl, Rti, Rta, Rla, Lam, Lrm}
 use Rattle.message.specs.declared.Verdict.the-variants.{Read}
 use Rattle.message.specs.declared.Record.{Record}
-use Rattle.message.specs.Reading.{cut, Judged}
-use Rattle.message.specs.Reader.{words-within}
+use Rattle.reader.specs.Reading.{cut, Judged}
+use Rattle.reader.specs.Reader.{words-within}
 use Rattle.places.specs.Bytes.{same, numberAt}
 use Rattle.flights.specs.Flight as f
 use Rattle.flights.specs.Flight.{Flight, filed, active, offered, accepted, statusOf, handoffOf, flightOf}

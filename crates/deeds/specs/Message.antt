@@ -3,7 +3,7 @@ use mathlib.Core.List.{List}
 use Prim.Native.Nat.{ℕ}
 use Rattle.message.specs.declared.Kind.{Kind}
 use Rattle.message.specs.declared.Record.{Record}
-use Rattle.message.specs.Reading.{cut}
+use Rattle.reader.specs.Reading.{cut}
 use Rattle.excerpt.specs.Excerpt.{Texts, textsOf, field14Of}
 
 -- `from` and `to` are the units of the message's own number, in their order, and `digits` its digits; `own` are fields 07 to

@@ -4,7 +4,7 @@ ghost use mathlib.Core.Bool.{_&&_};
 ghost use Prim.Native.Nat.{_+_, _≤_, _<_};
 ghost use lib.ListN.{length, getD};
 ghost use lib.Dec.{eqb};
-ghost use Rattle.message.specs.Reading.{cut, Judged};
+ghost use Rattle.reader.specs.Reading.{cut, Judged};
 ghost use Rattle.message.specs.declared.Verdict.the-variants.{Read};
 ghost use Rattle.flights.specs.Flight.{flightOf};
 ghost use Rattle.places.specs.Bytes.{same, numberAt};
@@ -175,7 +175,7 @@ fn key_unused(table: &[u8], w: &[u8], r: Record) -> bool
     }
     let o = r.parts.own;
     let c = r.parts.changes;
-    is_nowhere(flights::find(
+    is_nowhere(flight_find::find(
         table,
         or_own(w, c.aircraft, o.aircraft),
         or_own(w, c.departure, o.departure),
@@ -235,7 +235,7 @@ fn may_on(d: Deed, table: &[u8], i: usize, w: &[u8], r: Record) -> bool
 fn new_place(table: &[u8]) -> Decision
     ensures { λ d. ⌜ d ≡ decidedAt (lowestFree (flightsIn (now (table .entry)))) ⌝ }
 {
-    let p = flights::lowest_free(table);
+    let p = flight_find::lowest_free(table);
     match p {
         Place::At(i) => Decision::Done(i),
         Place::Nowhere => Decision::Full,
@@ -249,7 +249,7 @@ pub fn decide(table: &[u8], w: &[u8], r: Record) -> Decision
 {
     let o = r.parts.own;
     let d = deed_of(w, r);
-    let p = flights::find(
+    let p = flight_find::find(
         table,
         part(w, o.aircraft),
         part(w, o.departure),

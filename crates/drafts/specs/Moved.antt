@@ -18,11 +18,11 @@ use Rattle.types.specs.declared.Number.{Number}
 use Rattle.types.specs.declared.Estimate.{Estimate}
 use Rattle.types.specs.declared.Parts.{Parts}
 use Rattle.message.specs.declared.Record.{Record}
-use Rattle.message.specs.Reading.{cut}
-use Rattle.compose.specs.declared.Pen.{Pen}
-use Rattle.compose.specs.Listed.{numberParts, planParts, restParts, spanOf, Inside}
-use Rattle.compose.specs.Laying.{restBlocks, restSpans, blocks, spans, join, AllInside, Stands, Adds}
-use Rattle.writer.specs.Writing.{contentOf, Writes}
+use Rattle.reader.specs.Reading.{cut}
+use Rattle.pen.specs.declared.Pen.{Pen}
+use Rattle.pen.specs.Listed.{numberParts, planParts, restParts, spanOf, Inside}
+use Rattle.pen.specs.Laying.{restBlocks, restSpans, blocks, spans, join, AllInside, Stands, Adds}
+use Rattle.writing.specs.Writing.{contentOf, Writes}
 use Rattle.writer.specs.Written.{one-text}
 use Rattle.drafts.specs.Draft.{digits, ofNumber, figuresAs, numbered, Drafted}
 

@@ -5,8 +5,8 @@ use Rattle.scan.specs.Scanner.{runAt, runScan, wordsAt, wordsScan, longer, lead
 use Rattle.fields.specs.Fields.{inNumbered, in07, in08, counted, in09, in10, hour, minute, timed, in13, in13o, level3, level4, levelled, bearing, bearingFrom, degrees, minutes, pointed, in14, after15, in15, alternates, in16, inThree18, inFour18, in18}
 use Rattle.changes.specs.Changes.{from18, from16, from15, from13, from10, from09, from08, inChanges, inChanged}
 use Rattle.types.specs.Messages.{fpl, cpl, est, chg, cnl, rti, rta, rla, lam, lrm, message}
-use Rattle.message.specs.Reading.{hyphens}
-use Rattle.message.specs.Reader.{verdict, Ruled, verdict-right}
+use Rattle.reader.specs.Reading.{hyphens}
+use Rattle.reader.specs.Reader.{verdict, Ruled, verdict-right}
 use Rattle.message.specs.Record.{kindOf, figure}
 use Rattle.head.specs.Head.{standingAt, standing}
 use Rattle.places.specs.Bytes.{same}

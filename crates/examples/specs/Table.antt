@@ -6,7 +6,7 @@ use Prim.Native.Nat.{ℕ}
 use lib.ListN.{replicate}
 use Rattle.message.specs.declared.Verdict.{Verdict}
 use Rattle.message.specs.declared.Verdict.the-variants.{Read, Refused}
-use Rattle.message.specs.Reader.{Ruled}
+use Rattle.reader.specs.Reader.{Ruled}
 use Rattle.head.specs.declared.Standing.{Standing}
 use Rattle.head.specs.declared.Standing.the-variants.{New, Old, Stale}
 use Rattle.head.specs.Head.{standing}

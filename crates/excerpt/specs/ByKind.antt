@@ -18,12 +18,12 @@ use Rattle.message.specs.declared.Kind.{Kind}
 use Rattle.message.specs.declared.Kind.the-variants.{None, Fpl, Cpl, Est, Chg, Cnl, Rti, Rta, Rla, Lam, Lrm}
 use Rattle.message.specs.declared.Record.{Record}
 use Rattle.message.specs.declared.Verdict.the-variants.{Read}
-use Rattle.message.specs.Reading.{cut, Judged}
+use Rattle.reader.specs.Reading.{cut, Judged}
 use Rattle.scan.specs.Parts.{strange-sound}
 use Rattle.compose.specs.Layout.{filled, only, isNil, takesFirst, first, laid, sure, single, pieces, sameBool, samePieces, even, told, Tells, absent-part}
 use Rattle.compose.specs.Order.{Within, same, second}
-use Rattle.compose.specs.Listed.{spanOf}
-use Rattle.compose.specs.Laying.{none-given, ledBy, textAlternates, own-part}
+use Rattle.pen.specs.Listed.{spanOf}
+use Rattle.pen.specs.Laying.{none-given, ledBy, textAlternates, own-part}
 use Rattle.compose.specs.Composed.{sizes, bytesIn}
 use Rattle.compose.specs.Recorded.{typeOf, its, its-order, its-kind, its-bytes, its-size}
 use Rattle.excerpt.specs.Excerpt.{Texts, textsOf, field14Of}

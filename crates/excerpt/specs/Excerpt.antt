@@ -5,8 +5,8 @@ use Prim.Native.Nat.{ℕ, _≤_}
 use lib.ListN.{length, take}
 use Rattle.changes.specs.declared.Plan.{Plan}
 use Rattle.types.specs.declared.Estimate.{Estimate}
-use Rattle.message.specs.Reading.{cut}
-use Rattle.compose.specs.Laying.{AllInside, changeSpans, ledBy, textPair, text09, text10, text14, text15, textAlternates, text18}
+use Rattle.reader.specs.Reading.{cut}
+use Rattle.pen.specs.Laying.{AllInside, changeSpans, ledBy, textPair, text09, text10, text14, text15, textAlternates, text18}
 
 -- the texts of the fields 07 to 18, each empty where it is not given; of field 16 the destination, and the rest from its
 -- fifth byte

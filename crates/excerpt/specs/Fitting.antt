@@ -18,10 +18,10 @@ use Rattle.scan.specs.Bounds.{derives-short}
 use Rattle.fields.specs.Fields.{in08, counted, in09, in10, hour, minute, timed, level3, level4, levelled, bearing, bearingFrom, degrees, minutes, pointed, in14, after15, in15, alternates, rest16, inThree18, inFour18, in18}
 use Rattle.message.specs.declared.Record.{Record}
 use Rattle.message.specs.declared.Verdict.the-variants.{Read}
-use Rattle.message.specs.Reading.{Judged}
-use Rattle.compose.specs.declared.Pen.{Pen}
-use Rattle.compose.specs.Listed.{spanOf, Inside}
-use Rattle.compose.specs.Laying.{join, Stands, AllInside, Adds, start}
+use Rattle.reader.specs.Reading.{Judged}
+use Rattle.pen.specs.declared.Pen.{Pen}
+use Rattle.pen.specs.Listed.{spanOf, Inside}
+use Rattle.pen.specs.Laying.{join, Stands, AllInside, Adds, start}
 use Rattle.compose.specs.Recorded.{its-inside}
 use Rattle.excerpt.specs.Excerpt.{Texts, textsOf, field14Of, Short, FitsIn, Fits14, Starts}
 use Rattle.excerpt.specs.Said.{Said, own-said, changes-said, field14-said}

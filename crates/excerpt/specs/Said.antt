@@ -13,13 +13,13 @@ use Rattle.fields.specs.Names as n
 use Rattle.fields.specs.Fields.{inNumbered, in07, in08, counted, in09, in10, hour, minute, timed, in13, in13o, level3, level4, levelled, bearing, bearingFrom, degrees, minutes, pointed, in14, after15, in15, alternates, in16, rest16, inThree18, inFour18, in18, g08, g09, g10, g14, g15, g18}
 use Rattle.message.specs.declared.Record.{Record}
 use Rattle.message.specs.declared.Verdict.the-variants.{Read}
-use Rattle.message.specs.Reading.{cut, Judged}
+use Rattle.reader.specs.Reading.{cut, Judged}
 use Rattle.message.specs.Record.{kindOf}
 use Rattle.types.specs.Picking.{lettersOf}
 use Rattle.compose.specs.Layout.{filled, only, isNil, takesFirst, first, laid, sure, single, pieces, sameBool, samePieces, even, told, Tells}
 use Rattle.compose.specs.Order.{ordered, Within, same, cases, first as one-of}
-use Rattle.compose.specs.Listed.{spanOf}
-use Rattle.compose.specs.Laying.{own-part}
+use Rattle.pen.specs.Listed.{spanOf}
+use Rattle.pen.specs.Laying.{own-part}
 use Rattle.compose.specs.Composed.{sizes, bytesIn}
 use Rattle.compose.specs.Recorded.{ordered-plain, of-letters, its, its-order, its-bytes, its-size}
 use Rattle.excerpt.specs.Excerpt.{Texts, textsOf, field14Of}

@@ -21,10 +21,10 @@ use Rattle.fields.specs.Fields.{inNumbered, in07, in08, counted, in09, in10, ho
 use Rattle.message.specs.declared.Record.{Record}
 use Rattle.message.specs.declared.Verdict.the-variants.{Read}
 use Rattle.message.specs.Record.{figure, figureIn}
-use Rattle.message.specs.Reading.{cut, Judged}
+use Rattle.reader.specs.Reading.{cut, Judged}
 use Rattle.compose.specs.Layout.{filled, only, isNil, takesFirst, first, laid, sure, single, pieces, sameBool, samePieces, even, told, Tells}
 use Rattle.compose.specs.Order.{ordered, Within, same}
-use Rattle.compose.specs.Listed.{spanOf}
+use Rattle.pen.specs.Listed.{spanOf}
 use Rattle.compose.specs.Recorded.{its, its-inside, cut-size}
 use Rattle.excerpt.specs.Pieces.{kept, fine}
 use Rattle.excerpt.specs.Said.{field-said, part-said, order}

@@ -3,11 +3,11 @@
 ghost use mathlib.Core.Path.{_≡_};
 ghost use Prim.Native.Nat.{_≤_};
 ghost use lib.ListN.{length};
-ghost use Rattle.message.specs.Reading.{cut};
-ghost use Rattle.compose.specs.Listed.{Inside};
+ghost use Rattle.reader.specs.Reading.{cut};
+ghost use Rattle.pen.specs.Listed.{Inside};
 ghost use Rattle.excerpt.specs.Excerpt.{textsOf, field14Of, FitsIn, Fits14, Starts};
 use changes::Plan;
-use compose::Pen;
+use pen::Pen;
 use scan::Span;
 use types::Estimate;
 
@@ -29,7 +29,7 @@ pub fn text_08(out: &mut [u8], w: &[u8], p: Plan) -> usize
     ensures { λ r. ⌜ Starts (textsOf (now (w .entry)) p .field08) (now (out .entry)) (now (out .exit)) r ⌝ }
 {
     let q = Pen { at: 0, ok: true };
-    let r = compose::add_pair(out, q, w, b"", p.rules, p.flight);
+    let r = field_texts::add_pair(out, q, w, b"", p.rules, p.flight);
     r.at
 }
 
@@ -38,7 +38,7 @@ pub fn text_09(out: &mut [u8], w: &[u8], p: Plan) -> usize
     ensures { λ r. ⌜ Starts (textsOf (now (w .entry)) p .field09) (now (out .entry)) (now (out .exit)) r ⌝ }
 {
     let q = Pen { at: 0, ok: true };
-    let r = compose::add_09(out, q, w, b"", p.count, p.model, p.wake);
+    let r = field_texts::add_09(out, q, w, b"", p.count, p.model, p.wake);
     r.at
 }
 
@@ -47,7 +47,7 @@ pub fn text_10(out: &mut [u8], w: &[u8], p: Plan) -> usize
     ensures { λ r. ⌜ Starts (textsOf (now (w .entry)) p .field10) (now (out .entry)) (now (out .exit)) r ⌝ }
 {
     let q = Pen { at: 0, ok: true };
-    let r = compose::add_10(out, q, w, b"", p.equipment, p.surveillance);
+    let r = field_texts::add_10(out, q, w, b"", p.equipment, p.surveillance);
     r.at
 }
 
@@ -56,7 +56,7 @@ pub fn text_14(out: &mut [u8], w: &[u8], e: Estimate) -> usize
     ensures { λ r. ⌜ Starts (field14Of (now (w .entry)) e) (now (out .entry)) (now (out .exit)) r ⌝ }
 {
     let q = Pen { at: 0, ok: true };
-    let r = compose::add_14(
+    let r = field_texts::add_14(
         out,
         q,
         w,
@@ -75,7 +75,7 @@ pub fn text_15(out: &mut [u8], w: &[u8], p: Plan) -> usize
     ensures { λ r. ⌜ Starts (textsOf (now (w .entry)) p .field15) (now (out .entry)) (now (out .exit)) r ⌝ }
 {
     let q = Pen { at: 0, ok: true };
-    let r = compose::add_15(out, q, w, b"", p.speed, p.level, p.route);
+    let r = field_texts::add_15(out, q, w, b"", p.speed, p.level, p.route);
     r.at
 }
 
@@ -85,8 +85,8 @@ pub fn rest_16(out: &mut [u8], w: &[u8], p: Plan) -> usize
     ensures { λ r. ⌜ Starts (textsOf (now (w .entry)) p .rest16) (now (out .entry)) (now (out .exit)) r ⌝ }
 {
     let q = Pen { at: 0, ok: true };
-    let q1 = compose::add_led(out, q, w, b"", p.elapsed);
-    let r = compose::add_alternates(out, q1, w, p.alternate, p.alternate2);
+    let q1 = pen::add_led(out, q, w, b"", p.elapsed);
+    let r = field_texts::add_alternates(out, q1, w, p.alternate, p.alternate2);
     r.at
 }
 
@@ -95,6 +95,6 @@ pub fn text_18(out: &mut [u8], w: &[u8], p: Plan) -> usize
     ensures { λ r. ⌜ Starts (textsOf (now (w .entry)) p .field18) (now (out .entry)) (now (out .exit)) r ⌝ }
 {
     let q = Pen { at: 0, ok: true };
-    let r = compose::add_18(out, q, w, b"", p.indicator, p.other);
+    let r = field_texts::add_18(out, q, w, b"", p.indicator, p.other);
     r.at
 }

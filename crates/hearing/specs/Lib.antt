@@ -1,3 +1,1 @@
-pub mod Hearing
-pub mod Crosses
 pub mod Standings

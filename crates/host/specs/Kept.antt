@@ -11,10 +11,10 @@ use Rattle.places.specs.Bytes.{same, same-is}
 use Rattle.message.specs.declared.Record.{Record}
 use Rattle.message.specs.declared.Verdict.{Verdict}
 use Rattle.message.specs.declared.Verdict.the-variants.{Read, Refused}
-use Rattle.message.specs.Reading.{answerOf}
-use Rattle.writer.specs.declared.Writing.{Writing}
-use Rattle.writer.specs.declared.Writing.the-variants as writing
-use Rattle.writer.specs.Writing as w
+use Rattle.reader.specs.Reading.{answerOf}
+use Rattle.writing.specs.declared.Writing.{Writing}
+use Rattle.writing.specs.declared.Writing.the-variants as writing
+use Rattle.writing.specs.Writing as w
 use Rattle.head.specs.declared.Head.{Head}
 use Rattle.memory.specs.End.{End, Memory, endOf}
 use Rattle.unanswered.specs.Waiting.{isAnswer}
@@ -26,10 +26,10 @@ use Rattle.calls.specs.declared.Answer.{Answer}
 use Rattle.calls.specs.declared.Answer.the-variants.{Done, NotRead, NoRoom, WrongUnits, Stale, NothingUnanswered, WrongAnswer, NamedAlready, TooManyUnanswered, TooFarBack, ConditionFails, TableFull, NotFormed, BreaksRule, BadNames}
 use Rattle.calls.specs.declared.Outcome.{Outcome}
 use Rattle.calls.specs.Calls.{refusalIn, lengthIn, Comes, Called}
-use Rattle.link.specs.Sends.{Sent}
-use Rattle.link.specs.SetUp.{SetsUp}
+use Rattle.dispatch.specs.Sends.{Sent}
+use Rattle.beginning.specs.SetUp.{SetsUp}
 use Rattle.packed.specs.Packed.{recordIn}
-use Rattle.host.specs.Head.{headIn}
+use Rattle.head_bytes.specs.Head.{headIn}
 use Rattle.host.specs.Calls.{Ran, Receives, Sends, SetUp, Resent, packedBy, ReadInto, WroteFrom}
 
 -- what is equal unless it is not

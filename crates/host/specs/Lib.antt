@@ -1,5 +1,3 @@
-pub mod Head
-pub mod Written
 pub mod Calls
 pub mod Ways
 pub mod Kept

@@ -13,7 +13,7 @@ use Rattle.kinds.specs.Tools.{keyOf, get-below, true-false, none-some, same?, k
 use Rattle.scan.specs.Bools.{and-r, known}
 use Rattle.message.specs.declared.Record.{Record}
 use Rattle.message.specs.declared.Verdict.the-variants.{Read}
-use Rattle.message.specs.Reading.{Judged}
+use Rattle.reader.specs.Reading.{Judged}
 use Rattle.places.specs.declared.Place.{Place}
 use Rattle.places.specs.declared.Place.the-variants.{At, Nowhere}
 use Rattle.places.specs.Places.{Places, isFree, get, set, length-set, get-set, get-other, every-get, every-set, found-below, found-has, found-none}

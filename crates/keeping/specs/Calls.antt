@@ -15,8 +15,8 @@ use Rattle.message.specs.declared.Kind.the-variants.{Rla}
 use Rattle.message.specs.declared.Record.{Record}
 use Rattle.message.specs.declared.Verdict.{Verdict}
 use Rattle.message.specs.declared.Verdict.the-variants.{Read, Refused}
-use Rattle.message.specs.Reading.{Judged, cut}
-use Rattle.message.specs.Reader.{verdict, Ruled, verdict-right}
+use Rattle.reader.specs.Reading.{Judged, cut}
+use Rattle.reader.specs.Reader.{verdict, Ruled, verdict-right}
 use Rattle.head.specs.declared.Standing.{Standing}
 use Rattle.head.specs.declared.Standing.the-variants.{New, Old, Stale}
 use Rattle.head.specs.Head.{standing}

@@ -15,7 +15,7 @@ use Rattle.message.specs.declared.Kind.the-variants.{None, Fpl, Cpl, Est, Chg, 
 use Rattle.message.specs.declared.Record.{Record}
 use Rattle.message.specs.declared.Verdict.the-variants.{Read}
 use Rattle.message.specs.Record.{isChg}
-use Rattle.message.specs.Reading.{cut, Judged}
+use Rattle.reader.specs.Reading.{cut, Judged}
 use Rattle.compose.specs.Layout.{Told, Tells, find}
 use Rattle.compose.specs.Order.{ordered}
 use Rattle.compose.specs.Recorded.{ordered-plain, its, its-bytes}

@@ -8,8 +8,8 @@ use Rattle.head.specs.Head.{standing}
 use Rattle.message.specs.declared.Record.{Record}
 use Rattle.message.specs.declared.Verdict.{Verdict}
 use Rattle.message.specs.declared.Verdict.the-variants.{Read, Refused}
-use Rattle.message.specs.Reading.{Judged}
-use Rattle.message.specs.Reader.{verdict, verdict-only}
+use Rattle.reader.specs.Reading.{Judged}
+use Rattle.reader.specs.Reader.{verdict, verdict-only}
 use Rattle.unanswered.specs.Waiting.{isAnswer}
 use Rattle.deeds.specs.Message.{Message, messageOf}
 use Rattle.memory.specs.End.{Memory, endOf, waitingIn}

@@ -1,8 +1,8 @@
 -- The definition at small inputs, by computation. Assumes nothing.
 use mathlib.Core.Path.{_≡_, refl}
 use mathlib.Core.List.{[], _∷_}
-use Rattle.list.specs.Numbers.{decimal, decimalBy}
-use Rattle.list.specs.Listing.{endedFrom, unfinishedFrom, lastLine, texts, linesFrom, readOf, refusedOf, totals, brokeOff, listing, broken}
+use Rattle.lines.specs.Numbers.{decimal, decimalBy}
+use Rattle.lines.specs.Listing.{endedFrom, unfinishedFrom, lastLine, texts, linesFrom, readOf, refusedOf, totals, brokeOff, listing, broken}
 
 -- 1078
 number : decimal 1078 ≡ 49 ∷ 48 ∷ 55 ∷ 56 ∷ []

@@ -5,7 +5,7 @@ use mathlib.Core.List.{List, _++_}
 use mathlib.Core.Bool.{Bool, _&&_}
 use lib.Dec.{leb}
 use lib.ListN.{length, take, drop}
-use Rattle.list.specs.Listing.{ended, unfinished, linesFrom, readOf}
+use Rattle.lines.specs.Listing.{ended, unfinished, linesFrom, readOf}
 use Rattle.list.specs.declared.Tally.{Tally}
 
 -- no more bytes of a line than these are kept: they decide what is said of it (message, `judged-by-beginning`)

@@ -1,4 +1,2 @@
 pub mod Record
-pub mod Reading
 pub mod Figures
-pub mod Reader

@@ -31,7 +31,7 @@ use Rattle.message.specs.declared.Level.{Level}
 use Rattle.message.specs.declared.Record.{Record}
 use Rattle.message.specs.declared.Verdict.the-variants.{Read}
 use Rattle.message.specs.Record.{figure, figureAt, levelKindOf, levelIn, figuresOf, recordBy}
-use Rattle.message.specs.Reading.{Judged}
+use Rattle.reader.specs.Reading.{Judged}
 use Rattle.packed.specs.Numbers.{Small}
 use Rattle.packed.specs.Packed.{kindNumber, levelNumber, formNumber, partsNumbers, figureNumbers, numbersOf, packedOf, recordIn}
 use Rattle.packed.specs.Back.{packed-back}

@@ -14,8 +14,8 @@ use Rattle.message.specs.declared.Kind.{Kind}
 use Rattle.message.specs.declared.Kind.the-variants.{None, Fpl, Cpl, Est, Chg, Cnl, Rti, Rta, Rla, Lam, Lrm}
 use Rattle.message.specs.declared.Record.{Record}
 use Rattle.message.specs.declared.Verdict.the-variants.{Read}
-use Rattle.message.specs.Reading.{Judged}
-use Rattle.message.specs.Reader.{verdict, verdict-only}
+use Rattle.reader.specs.Reading.{Judged}
+use Rattle.reader.specs.Reader.{verdict, verdict-only}
 use Rattle.head.specs.declared.Head.{Head}
 use Rattle.places.specs.declared.Place.{Place}
 use Rattle.places.specs.declared.Place.the-variants.{At, Nowhere}

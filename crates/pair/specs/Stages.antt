@@ -13,8 +13,8 @@ use Rattle.fields.specs.Names as name
 use Rattle.message.specs.declared.Figures.{Figures}
 use Rattle.message.specs.declared.Record.{Record}
 use Rattle.message.specs.declared.Verdict.{Verdict}
-use Rattle.message.specs.Reading.{cut}
-use Rattle.compose.specs.Listed.{spanOf}
+use Rattle.reader.specs.Reading.{cut}
+use Rattle.pen.specs.Listed.{spanOf}
 use Rattle.compose.specs.Recorded.{its-inside}
 use Rattle.drafts.specs.Draft.{digits, figuresAs, numbered, Drafted}
 use Rattle.drafts.specs.Moved.{drafted-one}
@@ -42,8 +42,8 @@ use Rattle.calls.specs.declared.Answer.{Answer}
 use Rattle.calls.specs.declared.Answer.the-variants.{Done}
 use Rattle.calls.specs.declared.Outcome.{Outcome}
 use Rattle.calls.specs.Calls.{refusalIn, Comes, Called}
-use Rattle.link.specs.SetUp.{Sized, Sizes, Names}
-use Rattle.link.specs.Sends.{Sent}
+use Rattle.beginning.specs.SetUp.{Sized, Sizes, Names}
+use Rattle.dispatch.specs.Sends.{Sent}
 use Rattle.kinds.specs.Tools.{true-false, and-yes}
 use Rattle.kinds.specs.Ends.{SoundEnd}
 use Rattle.keeping.specs.Memory.{formed-of, end-back, fresh-sound}

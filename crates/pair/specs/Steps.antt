@@ -23,7 +23,7 @@ use Rattle.response.specs.Answering.{answerText}
 use Rattle.rules.specs.Refusals.{receive-numbered, send-numbered, resend-numbered}
 use Rattle.calls.specs.declared.Outcome.{Outcome}
 use Rattle.calls.specs.Calls.{Called, Comes}
-use Rattle.link.specs.Sends.{Sent}
+use Rattle.dispatch.specs.Sends.{Sent}
 use Rattle.kinds.specs.Tools.{same?, upd, some-inj}
 use Rattle.kinds.specs.Kinds.{Content, contentOf}
 use Rattle.kinds.specs.Views.{View, Sends, Learns, Hears}

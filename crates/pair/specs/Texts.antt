@@ -13,9 +13,9 @@ use Rattle.message.specs.declared.Kind.the-variants.{Rla}
 use Rattle.message.specs.declared.Record.{Record}
 use Rattle.message.specs.declared.Verdict.{Verdict}
 use Rattle.message.specs.declared.Verdict.the-variants.{Read, Refused}
-use Rattle.message.specs.Reading.{Judged}
-use Rattle.message.specs.Reader.{verdict}
-use Rattle.writer.specs.Writing.{Content}
+use Rattle.reader.specs.Reading.{Judged}
+use Rattle.reader.specs.Reader.{verdict}
+use Rattle.writing.specs.Writing.{Content}
 use Rattle.drafts.specs.Draft.{Drafted, numbered}
 use Rattle.head.specs.declared.Standing.{Standing}
 use Rattle.head.specs.declared.Standing.the-variants.{New, Old, Stale}

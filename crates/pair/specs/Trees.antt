@@ -18,8 +18,8 @@ use Rattle.types.specs.Messages.{fpl, cpl, est, chg, cnl, rti, rta, rla, lam, l
 use Rattle.message.specs.declared.Record.{Record}
 use Rattle.message.specs.declared.Verdict.the-variants.{Read}
 use Rattle.message.specs.Record.{figure, kindOf, isChg, levelKindOf, levelIn, formIn, recordOf, blank}
-use Rattle.message.specs.Reading.{Judged}
-use Rattle.message.specs.Reader.{verdict, verdict-only}
+use Rattle.reader.specs.Reading.{Judged}
+use Rattle.reader.specs.Reader.{verdict, verdict-only}
 use Rattle.places.specs.Bytes.{same, same-is}
 use Rattle.deeds.specs.Message.{Message, messageOf}
 use Rattle.rules.specs.Reads.{messageIn, read-message}

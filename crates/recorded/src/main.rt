@@ -3,7 +3,7 @@
 ghost use mathlib.Core.Path.{_≡_};
 ghost use Prim.Native.Nat.{_+_, _≤_};
 ghost use lib.ListN.{length};
-ghost use Rattle.message.specs.Reading.{Judged};
+ghost use Rattle.reader.specs.Reading.{Judged};
 ghost use Rattle.message.specs.declared.Verdict.the-variants.{Read};
 use deeds::Decision;
 use libc::STDIN_FILENO;
@@ -103,7 +103,7 @@ fn tell(c: Decision) {
 fn apply(line: &[u8], r: Record, table: &mut [u8])
     requires { ⌜ Judged (now line) Read r ⌝ }
 {
-    if !flights::is_table(&table[..]) {
+    if !flight_table::is_table(&table[..]) {
         say(b"the table is not well formed\n");
         return;
     }
@@ -113,7 +113,7 @@ fn apply(line: &[u8], r: Record, table: &mut [u8])
 }
 
 fn take(line: &[u8], table: &mut [u8]) {
-    let q = message::read(line);
+    let q = reader::read(line);
     let r = q.record;
     let v = q.verdict;
     match v {
@@ -126,7 +126,7 @@ fn take_all(s: &[u8], table: &mut [u8]) {
     let mut at = 0;
     while at < s.len() {
         let rest = &s[at..];
-        let n = list::line_end(rest);
+        let n = line_ends::line_end(rest);
         take(&rest[..n], table);
         at += n + 1;
     }
@@ -142,7 +142,7 @@ fn main() {
     show_place(&table[1536..2304]);
     show_place(&table[2304..3072]);
     show_place(&table[3072..3840]);
-    if flights::is_table(&table) {
+    if flight_table::is_table(&table) {
         say(b"well formed\n");
     }
 }

@@ -15,9 +15,9 @@ use Rattle.types.specs.declared.Number.{Number}
 use Rattle.message.specs.declared.Kind.the-variants.{Rla, Lam, Lrm}
 use Rattle.message.specs.declared.Record.{Record}
 use Rattle.message.specs.declared.Verdict.the-variants.{Read}
-use Rattle.message.specs.Reading.{cut, Judged}
-use Rattle.compose.specs.Listed.{spanOf}
-use Rattle.compose.specs.Laying.{join, AllInside, ledBy, textNumber, opening, none-given, is-given}
+use Rattle.reader.specs.Reading.{cut, Judged}
+use Rattle.pen.specs.Listed.{spanOf}
+use Rattle.pen.specs.Laying.{join, AllInside, ledBy, textNumber, opening, none-given, is-given}
 use Rattle.compose.specs.Recorded.{its-inside, cut-size}
 use Rattle.excerpt.specs.Fitting.{all-inside}
 use Rattle.excerpt.specs.Sizes.{number-said, sector-short}

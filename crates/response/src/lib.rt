@@ -1,16 +1,16 @@
 // The text of an answer to a message that was read, laid out from that message's own parts.
 ghost use Prim.Native.Nat.{_≤_, _<_};
 ghost use lib.ListN.{length};
-ghost use Rattle.message.specs.Reading.{Judged};
+ghost use Rattle.reader.specs.Reading.{Judged};
 ghost use Rattle.message.specs.declared.Verdict.the-variants.{Read};
-ghost use Rattle.compose.specs.Laying.{Adds, start};
+ghost use Rattle.pen.specs.Laying.{Adds, start};
 ghost use Rattle.excerpt.specs.Excerpt.{Starts};
 ghost use Rattle.deeds.specs.Message.{messageOf};
 ghost use Rattle.response.specs.Answering.{answerText};
 ghost use Rattle.response.specs.Blocks.{numberBlocks, numberSpans, lamBlocks, rlaBlocks, rlaSpans, lrmBlocks};
-use compose::Pen;
 use message::Kind;
 use message::Record;
+use pen::Pen;
 use scan::Span;
 use types::Number;
 
@@ -18,8 +18,8 @@ use types::Number;
 fn add_numbers(text: &mut [u8], p: Pen, w: &[u8], n: Number) -> Pen
     ensures { λ r. ⌜ Adds (now (w .entry)) (now (text .entry)) p (numberBlocks (now (w .entry)) n) (numberSpans n) (now (text .exit)) r ⌝ }
 {
-    let p1 = compose::add_number(text, p, w, n.receiver, n.sender, n.digits);
-    compose::add_number(text, p1, w, n.sender, n.receiver, n.digits)
+    let p1 = pen::add_number(text, p, w, n.receiver, n.sender, n.digits);
+    pen::add_number(text, p1, w, n.sender, n.receiver, n.digits)
 }
 
 fn lay_lam(text: &mut [u8], w: &[u8], n: Number) -> Pen
@@ -27,7 +27,7 @@ fn lay_lam(text: &mut [u8], w: &[u8], n: Number) -> Pen
 {
     let p = compose::open_text(text, Kind::Lam);
     let p1 = add_numbers(text, p, w, n);
-    compose::add(text, p1, b")")
+    pen::add(text, p1, b")")
 }
 
 fn lay_rla(text: &mut [u8], w: &[u8], n: Number, sector: Span) -> Pen
@@ -35,8 +35,8 @@ fn lay_rla(text: &mut [u8], w: &[u8], n: Number, sector: Span) -> Pen
 {
     let p = compose::open_text(text, Kind::Rla);
     let p1 = add_numbers(text, p, w, n);
-    let p2 = compose::add_led(text, p1, w, b"-", sector);
-    compose::add(text, p2, b")")
+    let p2 = pen::add_led(text, p1, w, b"-", sector);
+    pen::add(text, p2, b")")
 }
 
 fn lay_lrm(text: &mut [u8], w: &[u8], n: Number, v: u8) -> Pen
@@ -45,9 +45,9 @@ fn lay_lrm(text: &mut [u8], w: &[u8], n: Number, v: u8) -> Pen
     let reason = [b'0' + v / 10, b'0' + v % 10];
     let p = compose::open_text(text, Kind::Lrm);
     let p1 = add_numbers(text, p, w, n);
-    let p2 = compose::add(text, p1, b"-RMK/");
-    let p3 = compose::add(text, p2, &reason);
-    compose::add(text, p3, b")")
+    let p2 = pen::add(text, p1, b"-RMK/");
+    let p3 = pen::add(text, p2, &reason);
+    pen::add(text, p3, b")")
 }
 
 // Lays the text of an answer at the start of a buffer, and answers its length.

@@ -10,8 +10,8 @@ use Rattle.scan.specs.declared.Span.{Span}
 use Rattle.message.specs.declared.Verdict.the-variants.{Read}
 use Rattle.message.specs.declared.Record.{Record}
 use Rattle.message.specs.Record.{isChg}
-use Rattle.message.specs.Reading.{cut, Judged}
-use Rattle.compose.specs.Listed.{Inside}
+use Rattle.reader.specs.Reading.{cut, Judged}
+use Rattle.pen.specs.Listed.{Inside}
 use Rattle.deeds.specs.Message.{messageOf}
 use Rattle.deeds.specs.Deeds.{Key, old, changedKey, new, orHeld}
 use Rattle.deeds.specs.Laws.{Within, none-given, one-given, aircraft-in, departure-in, destination-in, aircrafts-in, departures-in, destinations-in}

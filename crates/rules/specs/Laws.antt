@@ -13,8 +13,8 @@ use Rattle.message.specs.declared.Kind.{Kind}
 use Rattle.message.specs.declared.Kind.the-variants.{None, Fpl, Cpl, Est, Chg, Cnl, Rti, Rta, Rla, Lam, Lrm}
 use Rattle.message.specs.declared.Verdict.the-variants.{Read}
 use Rattle.message.specs.declared.Record.{Record}
-use Rattle.message.specs.Reading.{Judged}
-use Rattle.compose.specs.Listed.{Inside}
+use Rattle.reader.specs.Reading.{Judged}
+use Rattle.pen.specs.Listed.{Inside}
 use Rattle.unanswered.specs.Waiting.{isAnswer}
 use Rattle.answers.specs.Given.{isValue}
 use Rattle.deeds.specs.declared.Deed.{Deed}

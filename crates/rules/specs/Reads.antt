@@ -11,8 +11,8 @@ use Rattle.types.specs.Scanned.{scannedBy}
 use Rattle.message.specs.declared.Record.{Record}
 use Rattle.message.specs.declared.Verdict.the-variants.{Read}
 use Rattle.message.specs.Record.{recordBy, blank}
-use Rattle.message.specs.Reading.{hyphens, Judged}
-use Rattle.message.specs.Reader.{passed, read-judged, refused-judged, derived-read, one-record}
+use Rattle.reader.specs.Reading.{hyphens, Judged}
+use Rattle.reader.specs.Reader.{passed, read-judged, refused-judged, derived-read, one-record}
 use Rattle.deeds.specs.Message.{Message, messageOf}
 
 -- as the scan finds it; that it is the record which document 01 gives is the law below

@@ -9,7 +9,7 @@ use Rattle.message.specs.declared.Kind.{Kind}
 use Rattle.message.specs.declared.Kind.the-variants.{None, Fpl, Cpl, Est, Chg, Cnl, Rti, Rta, Rla, Lam, Lrm}
 use Rattle.message.specs.declared.Verdict.{Verdict}
 use Rattle.message.specs.declared.Verdict.the-variants.{Read, Refused}
-use Rattle.message.specs.Reader.{verdict}
+use Rattle.reader.specs.Reader.{verdict}
 use Rattle.head.specs.declared.Head.{Head}
 use Rattle.head.specs.declared.Standing.{Standing}
 use Rattle.head.specs.declared.Standing.the-variants.{New, Old, Stale}

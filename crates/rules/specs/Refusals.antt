@@ -8,7 +8,7 @@ use lib.ListN.{length, getD}
 use lib.Dec.{eqb, leb}
 use Rattle.message.specs.declared.Verdict.{Verdict}
 use Rattle.message.specs.declared.Verdict.the-variants.{Read, Refused}
-use Rattle.message.specs.Reader.{verdict}
+use Rattle.reader.specs.Reader.{verdict}
 use Rattle.head.specs.declared.Standing.{Standing}
 use Rattle.head.specs.declared.Standing.the-variants.{New, Old, Stale}
 use Rattle.head.specs.Head as h

@@ -2,9 +2,9 @@
 ghost use mathlib.Core.Path.{_≡_};
 ghost use mathlib.Core.Bool.{_&&_};
 ghost use lib.Dec.{eqb};
-ghost use Rattle.message.specs.Reading.{cut, Judged};
+ghost use Rattle.reader.specs.Reading.{cut, Judged};
 ghost use Rattle.message.specs.declared.Verdict.the-variants.{Read};
-ghost use Rattle.compose.specs.Listed.{Inside};
+ghost use Rattle.pen.specs.Listed.{Inside};
 ghost use Rattle.deeds.specs.Message.{messageOf};
 ghost use Rattle.deeds.specs.Deeds.{old, sameKey};
 ghost use Rattle.rules.specs.Answers.{isOffering, isAcceptance, proper as properOf, isGood, goodAnswer, answerTo};

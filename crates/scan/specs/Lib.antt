@@ -8,4 +8,3 @@ pub mod Parts
 pub mod Bounds
 pub mod Laws
 pub mod Picks
-pub mod Blocks

@@ -1,4 +1,1 @@
-pub mod Asked
 pub mod Survey
-pub mod Deciding
-pub mod Sent

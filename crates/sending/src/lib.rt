@@ -1,31 +1,24 @@
 // Sending a message whose text is laid out already: everything is decided before anything is written.
 ghost use mathlib.Core.Path.{_≡_};
-ghost use Prim.Native.Nat.{ℕ, _≤_, _<_};
+ghost use Prim.Native.Nat.{ℕ, _<_};
 ghost use mathlib.Core.List.{List};
 ghost use mathlib.Core.Bool.{true};
 ghost use lib.ListN.{length};
 ghost use Rattle.message.specs.declared.Verdict.the-variants.{Read};
-ghost use Rattle.message.specs.Reading.{Judged};
+ghost use Rattle.reader.specs.Reading.{Judged};
 ghost use Rattle.flights.specs.Formed.{TableFormed};
-ghost use Rattle.flights.specs.Decoded.{flightsIn, tableOf};
 ghost use Rattle.head.specs.Sound.{HeadFormed};
 ghost use Rattle.places.specs.declared.Place.the-variants.{At};
 ghost use Rattle.unanswered.specs.Waiting.{place, UnansweredFormed};
 ghost use Rattle.deeds.specs.Message.{messageOf};
-ghost use Rattle.deeds.specs.Deeds.{deedOf};
-ghost use Rattle.deeds.specs.Applying.{decision};
 ghost use Rattle.answers.specs.Given.{AnswersFormed};
-ghost use Rattle.memory.specs.End.{lent, waitingIn};
-ghost use Rattle.rules.specs.Answers.{isAcceptance};
-ghost use Rattle.rules.specs.Sending.{anyWaiting, tooOld, send};
+ghost use Rattle.memory.specs.End.{lent};
+ghost use Rattle.rules.specs.Sending.{send};
 ghost use Rattle.calls.specs.Calls.{Called};
-ghost use Rattle.sending.specs.Asked.{Waits, usedWith};
 ghost use Rattle.sending.specs.Survey.{Sees, Counted, Surveys};
-ghost use Rattle.sending.specs.Deciding.{holds as holdsOf, decidedOn, tableFilled};
-ghost use Rattle.sending.specs.Sent.{accepted, Handed, Sends};
+ghost use Rattle.handing.specs.Sent.{Sends};
 use calls::Answer;
 use calls::Outcome;
-use deeds::Decision;
 use head::Head;
 use message::Record;
 use places::Place;
@@ -64,7 +57,7 @@ fn see<'a>(u: &'a [u8], i: usize, ours: &[u8], partners: &[u8], w: &'a [u8], r: 
         },
         Shown::Message => {
             let s = unanswered::text(u, i);
-            let q = message::read(s);
+            let q = reader::read(s);
             let its = q.record;
             if !unanswered::is_proper(u, i, its, ours, partners) {
                 return Seen {
@@ -119,104 +112,6 @@ fn survey<'a>(u: &'a [u8], ours: &[u8], partners: &[u8], w: &'a [u8], r: Record)
     }
 }
 
-// 9: Whether place i has a message 400 or more numbers back from the next.
-fn is_old(u: &[u8], i: usize, next: usize) -> bool
-    requires { ⌜ Waits (now u) × (i < 16) × (next ≤ 999) ⌝ }
-    ensures { λ b. ⌜ b ≡ usedWith (tooOld next) (place i (now (u .entry))) ⌝ }
-{
-    let a = i * 1280;
-    if u[a] == 0 {
-        return false;
-    }
-    let d = (next + 1000 - places::number_at(&u[a..a + 1280], 1)) % 1000;
-    (d == 0) | (400 <= d)
-}
-
-fn too_far_back(u: &[u8], next: usize) -> bool
-    requires { ⌜ Waits (now u) × (next ≤ 999) ⌝ }
-    ensures { λ b. ⌜ b ≡ anyWaiting (tooOld next) (waitingIn (now (u .entry))) ⌝ }
-{
-    let mut i = 0;
-    while i < 16 {
-        if is_old(u, i, next) {
-            return true;
-        }
-        i += 1;
-    }
-    false
-}
-
-// 10: Whether the condition holds, from what was decided.
-fn holds(c: Decision) -> bool
-    ensures { λ b. ⌜ b ≡ holdsOf c ⌝ }
-{
-    match c {
-        Decision::Fails => false,
-        Decision::Full => true,
-        Decision::Done(i) => true,
-    }
-}
-
-// An acceptance is decided on the flights received, all else on those sent.
-fn decide(sent: &[u8], received: &[u8], w: &[u8], r: Record) -> Decision
-    requires { ⌜ Judged (now w) Read r ⌝ }
-    ensures { λ c. ⌜ c ≡ decidedOn (messageOf (now (w .entry)) r) (flightsIn (now (sent .entry))) (flightsIn (now (received .entry))) ⌝ }
-{
-    if rules::is_acceptance(deeds::deed_of(w, r)) {
-        return deeds::decide(received, w, r);
-    }
-    deeds::decide(sent, w, r)
-}
-
-// 11: Whether flights sent and unanswered messages that make one fill the table.
-fn is_filled(sent: &[u8], makers: usize, w: &[u8], r: Record) -> bool
-    requires { ⌜ Judged (now w) Read r × TableFormed (now sent) × (makers ≤ 16) ⌝ }
-    ensures { λ b. ⌜ b ≡ tableFilled (messageOf (now (w .entry)) r) (now (sent .entry)) makers ⌝ }
-{
-    if !deeds::makes(deeds::deed_of(w, r)) {
-        return false;
-    }
-    sent.len() / 768 <= flights::used(sent) + makers
-}
-
-// THE WRITES, once nothing refuses.
-
-// An acceptance is applied on sending.
-fn accept(c: Decision, received: &mut [u8], w: &[u8], r: Record)
-    requires { ⌜ Judged (now w) Read r × TableFormed (now received) × (isAcceptance (deedOf (messageOf (now w) r)) ≡ true → c ≡ decision (messageOf (now w) r) (flightsIn (now received))) ⌝ }
-    ensures { λ _. ⌜ now (received .exit) ≡ tableOf (accepted (messageOf (now (w .entry)) r) (flightsIn (now (received .entry)))) ⌝ }
-{
-    if !rules::is_acceptance(deeds::deed_of(w, r)) {
-        return;
-    }
-    perform::follow(c, received, w, r);
-}
-
-// The text is kept at place i and given, with the next number.
-fn hand_over(
-    i: usize,
-    c: Decision,
-    h: Head,
-    w: &[u8],
-    r: Record,
-    received: &mut [u8],
-    unanswered: &mut [u8],
-    out: &mut [u8],
-) -> Outcome
-    requires { ⌜ (i < 16) × Judged (now w) Read r × HeadFormed h × TableFormed (now received) × UnansweredFormed (h .ours) (h .partners) (now unanswered) × (length (now w) ≤ length (now out)) × (isAcceptance (deedOf (messageOf (now w) r)) ≡ true → c ≡ decision (messageOf (now w) r) (flightsIn (now received))) ⌝ }
-    ensures { λ o. ⌜ Handed i (messageOf (now (w .entry)) r) h (now (w .entry)) (now (received .entry)) (now (unanswered .entry)) (now (out .entry)) o (now (received .exit)) (now (unanswered .exit)) (now (out .exit)) ⌝ }
-{
-    accept(c, received, w, r);
-    unanswered::store(unanswered, i, h.next, w);
-    let n = splice::put(out, 0, w);
-    let g = h.give();
-    let head = g.head;
-    Outcome {
-        answer: Answer::Done(n),
-        head,
-    }
-}
-
 // THE CALL
 
 // Checks 9, 7, 10, 11 and 2, and then the writes.
@@ -234,7 +129,7 @@ fn send_at(
     requires { ⌜ (i < 16) × Judged (now w) Read r × HeadFormed h × TableFormed (now sent) × TableFormed (now received) × UnansweredFormed (h .ours) (h .partners) (now unanswered) × Counted (messageOf (now w) r) (now unanswered) x ⌝ }
     ensures { λ o. ⌜ Sends (At i) (messageOf (now (w .entry)) r) h (now (w .entry)) (now (sent .entry)) (now (received .entry)) (now (unanswered .entry)) (now (out .entry)) o (now (received .exit)) (now (unanswered .exit)) (now (out .exit)) ⌝ }
 {
-    if too_far_back(unanswered, h.next) {
+    if asking::too_far_back(unanswered, h.next) {
         return Outcome {
             answer: Answer::TooFarBack,
             head: h,
@@ -246,14 +141,14 @@ fn send_at(
             head: h,
         };
     }
-    let c = decide(sent, received, w, r);
-    if !holds(c) {
+    let c = asking::decide(sent, received, w, r);
+    if !asking::holds(c) {
         return Outcome {
             answer: Answer::ConditionFails,
             head: h,
         };
     }
-    if is_filled(sent, x.makers, w, r) {
+    if asking::is_filled(sent, x.makers, w, r) {
         return Outcome {
             answer: Answer::TableFull,
             head: h,
@@ -265,7 +160,7 @@ fn send_at(
             head: h,
         };
     }
-    hand_over(i, c, h, w, r, received, unanswered, out)
+    handing::hand_over(i, c, h, w, r, received, unanswered, out)
 }
 
 // A text with the next number is sent, or it is refused by the first check that fails: 12 for the unanswered messages, 8, 9, 7,

@@ -9,8 +9,8 @@ use Rattle.message.specs.declared.Kind.{Kind}
 use Rattle.message.specs.declared.Verdict.the-variants.{Read}
 use Rattle.message.specs.declared.Verdict.{Verdict}
 use Rattle.message.specs.declared.Record.{Record}
-use Rattle.message.specs.Reading.{Judged}
-use Rattle.message.specs.Reader.{Ruled, judged-one}
+use Rattle.reader.specs.Reading.{Judged}
+use Rattle.reader.specs.Reader.{Ruled, judged-one}
 use Rattle.head.specs.declared.Head.{Head}
 use Rattle.places.specs.declared.Place.{Place}
 use Rattle.places.specs.declared.Place.the-variants.{At, Nowhere}

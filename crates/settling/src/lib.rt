@@ -2,8 +2,8 @@
 ghost use mathlib.Core.Path.{_≡_};
 ghost use Prim.Native.Nat.{_<_};
 ghost use Rattle.message.specs.declared.Verdict.the-variants.{Read};
-ghost use Rattle.message.specs.Reading.{Judged};
-ghost use Rattle.message.specs.Reader.{Ruled};
+ghost use Rattle.reader.specs.Reading.{Judged};
+ghost use Rattle.reader.specs.Reader.{Ruled};
 ghost use Rattle.flights.specs.Formed.{TableFormed};
 ghost use Rattle.flights.specs.Decoded.{flightsIn, tableOf};
 ghost use Rattle.unanswered.specs.Waiting.{UnansweredFormed};
@@ -28,7 +28,7 @@ fn read_kept(w: &[u8]) -> Record
     requires { ⌜ Ruled (now w) Read ⌝ }
     ensures { λ r. ⌜ Judged (now (w .entry)) Read r ⌝ }
 {
-    let q = message::read(w);
+    let q = reader::read(w);
     q.record
 }
 

@@ -88,7 +88,7 @@ fn opened(s: &[u8], a: u8, b: u8, c: u8) -> Heading
     let r = scan::byte(s, Scan { next: 0, ok: true }, b'(');
     let x = scan::byte(s, r, a);
     let y = scan::byte(s, x, b);
-    let n = fields::number(s, scan::byte(s, y, c));
+    let n = plan_fields::number(s, scan::byte(s, y, c));
     let end = n.end;
     let sender = n.sender;
     let receiver = n.receiver;
@@ -111,7 +111,7 @@ fn referring(s: &[u8], a: u8, b: u8, c: u8) -> Heading
     let o = opened(s, a, b, c);
     let e = o.end;
     let own = o.number;
-    let n = fields::number(s, e);
+    let n = plan_fields::number(s, e);
     let end = n.end;
     let sender = n.sender;
     let receiver = n.receiver;
@@ -131,13 +131,13 @@ fn referring(s: &[u8], a: u8, b: u8, c: u8) -> Heading
 fn front(s: &[u8], r: Scan) -> Leading
     ensures { λ q. ⌜ q ≡ frontOf (now (s .entry)) r ⌝ }
 {
-    let a = fields::field07(s, r);
+    let a = plan_fields::field07(s, r);
     let e = a.end;
-    let b = fields::field08(s, scan::byte(s, e, b'-'));
+    let b = plan_fields::field08(s, scan::byte(s, e, b'-'));
     let f = b.end;
-    let c = fields::field09(s, scan::byte(s, f, b'-'));
+    let c = plan_fields::field09(s, scan::byte(s, f, b'-'));
     let g = c.end;
-    let d = fields::field10(s, scan::byte(s, g, b'-'));
+    let d = plan_fields::field10(s, scan::byte(s, g, b'-'));
     let end = d.end;
     let mut plan = changes::no_plan();
     let aircraft = a.aircraft;
@@ -171,11 +171,11 @@ fn fpl(s: &[u8]) -> Scanned
     let f = front(s, scan::byte(s, e, b'-'));
     let e1 = f.end;
     let mut plan = f.plan;
-    let d = fields::field13(s, scan::byte(s, e1, b'-'));
+    let d = plan_fields::field13(s, scan::byte(s, e1, b'-'));
     let e2 = d.end;
-    let r = fields::field15(s, scan::byte(s, e2, b'-'));
+    let r = plan_fields::field15(s, scan::byte(s, e2, b'-'));
     let e3 = r.end;
-    let a = fields::field16(s, scan::byte(s, e3, b'-'));
+    let a = plan_fields::field16(s, scan::byte(s, e3, b'-'));
     let e4 = a.end;
     let o = fields::field18(s, scan::byte(s, e4, b'-'));
     let e5 = o.end;
@@ -229,9 +229,9 @@ fn cpl(s: &[u8]) -> Scanned
     let mut plan = f.plan;
     let e2 = scan::byte(s, e1, b'-');
     let e3 = scan::letters(s, e2, 4);
-    let x = fields::field14(s, scan::byte(s, e3, b'-'));
+    let x = points::field14(s, scan::byte(s, e3, b'-'));
     let e4 = x.end;
-    let r = fields::field15(s, scan::byte(s, e4, b'-'));
+    let r = plan_fields::field15(s, scan::byte(s, e4, b'-'));
     let e5 = r.end;
     let e6 = scan::byte(s, e5, b'-');
     let e7 = scan::letters(s, e6, 4);
@@ -284,11 +284,11 @@ fn est(s: &[u8]) -> Scanned
     let e = h.end;
     let number = h.number;
     let reference = h.reference;
-    let i = fields::field07(s, scan::byte(s, e, b'-'));
+    let i = plan_fields::field07(s, scan::byte(s, e, b'-'));
     let e1 = i.end;
     let e2 = scan::byte(s, e1, b'-');
     let e3 = scan::letters(s, e2, 4);
-    let x = fields::field14(s, scan::byte(s, e3, b'-'));
+    let x = points::field14(s, scan::byte(s, e3, b'-'));
     let e4 = x.end;
     let e5 = scan::byte(s, e4, b'-');
     let e6 = scan::letters(s, e5, 4);
@@ -336,7 +336,7 @@ fn chg(s: &[u8]) -> Scanned
     let reference = h.reference;
     let e1 = scan::byte(s, e, b'-');
     let e2 = scan::alnums(s, e1, 2, 7);
-    let d = fields::field13o(s, scan::byte(s, e2, b'-'));
+    let d = plan_fields::field13o(s, scan::byte(s, e2, b'-'));
     let e3 = d.end;
     let e4 = scan::byte(s, e3, b'-');
     let e5 = scan::letters(s, e4, 4);
@@ -379,7 +379,7 @@ fn cnl(s: &[u8]) -> Scanned
     let reference = h.reference;
     let e1 = scan::byte(s, e, b'-');
     let e2 = scan::alnums(s, e1, 2, 7);
-    let d = fields::field13o(s, scan::byte(s, e2, b'-'));
+    let d = plan_fields::field13o(s, scan::byte(s, e2, b'-'));
     let e3 = d.end;
     let e4 = scan::byte(s, e3, b'-');
     let e5 = scan::letters(s, e4, 4);
@@ -419,16 +419,16 @@ fn rti(s: &[u8]) -> Scanned
     let e = h.end;
     let number = h.number;
     let reference = h.reference;
-    let i = fields::field07(s, scan::byte(s, e, b'-'));
+    let i = plan_fields::field07(s, scan::byte(s, e, b'-'));
     let e1 = i.end;
     let e2 = scan::byte(s, e1, b'-');
     let e3 = scan::letters(s, e2, 4);
     let e4 = scan::byte(s, e3, b'-');
     let e5 = scan::letters(s, e4, 4);
     let e6 = scan::byte(s, e5, b'-');
-    let e7 = scan::words(s, e6, 20);
+    let e7 = words::words(s, e6, 20);
     let e8 = scan::byte(s, e7, b'-');
-    let e9 = scan::words(s, e8, 60);
+    let e9 = words::words(s, e8, 60);
     let end = scan::byte(s, e9, b')');
     let mut plan = changes::no_plan();
     let aircraft = i.aircraft;
@@ -468,7 +468,7 @@ fn rta(s: &[u8]) -> Scanned
     let e5 = scan::byte(s, e4, b'-');
     let e6 = scan::letters(s, e5, 4);
     let e7 = scan::byte(s, e6, b'-');
-    let e8 = scan::words(s, e7, 20);
+    let e8 = words::words(s, e7, 20);
     let end = scan::byte(s, e8, b')');
     let mut plan = changes::no_plan();
     plan.aircraft = scan::between(e1, e2);
@@ -498,7 +498,7 @@ fn rla(s: &[u8]) -> Scanned
     let number = h.number;
     let reference = h.reference;
     let e1 = scan::byte(s, e, b'-');
-    let e2 = scan::words(s, e1, 20);
+    let e2 = words::words(s, e1, 20);
     let end = scan::byte(s, e2, b')');
     let sector = scan::between(e1, e2);
     Scanned {

@@ -14,8 +14,8 @@ use Rattle.message.specs.declared.Kind.the-variants.{None}
 use Rattle.message.specs.declared.Verdict.{Verdict}
 use Rattle.message.specs.declared.Verdict.the-variants.{Read, Refused}
 use Rattle.message.specs.declared.Record.{Record}
-use Rattle.message.specs.Reading.{Judged, cut}
-use Rattle.message.specs.Reader.{judged-one, words-within}
+use Rattle.reader.specs.Reading.{Judged, cut}
+use Rattle.reader.specs.Reader.{judged-one, words-within}
 use Rattle.places.specs.Bytes.{high, low, numberAt, high-of, low-of, two-bytes, each, stretch-is}
 use Rattle.unanswered.specs.declared.Shown.the-variants.{Broken, Empty, Message}
 use Rattle.unanswered.specs.Waiting.{Waiting, waiting, waitingBytes, waitingOf, isAnswer, Proper, WellFormed, free, Shows}

@@ -10,8 +10,8 @@ use Rattle.types.specs.Messages.{message}
 use Rattle.types.specs.Sound.{message-longest}
 use Rattle.message.specs.declared.Verdict.the-variants.{Read}
 use Rattle.message.specs.declared.Record.{Record}
-use Rattle.message.specs.Reading.{Judged}
-use Rattle.message.specs.Reader.{derived-read}
+use Rattle.reader.specs.Reading.{Judged}
+use Rattle.reader.specs.Reader.{derived-read}
 use Rattle.places.specs.Bytes.{high, low, two-bytes}
 use Rattle.unanswered.specs.Waiting.{Waiting, waitingBytes, waitingOf, Proper}
 

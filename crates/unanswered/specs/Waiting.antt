@@ -10,7 +10,7 @@ use Rattle.message.specs.declared.Kind.{Kind}
 use Rattle.message.specs.declared.Kind.the-variants.{None, Fpl, Cpl, Est, Chg, Cnl, Rti, Rta, Rla, Lam, Lrm}
 use Rattle.message.specs.declared.Verdict.the-variants.{Read}
 use Rattle.message.specs.declared.Record.{Record}
-use Rattle.message.specs.Reading.{Judged, cut}
+use Rattle.reader.specs.Reading.{Judged, cut}
 use Rattle.places.specs.declared.Place.{Place}
 use Rattle.places.specs.Below.{Below}
 use Rattle.places.specs.Search.{firstFrom}

@@ -5,7 +5,7 @@ ghost use lib.ListN.{length};
 ghost use Rattle.scan.specs.Bools.{Decides};
 ghost use Rattle.splice.specs.Splice.{splice as spliced};
 ghost use Rattle.message.specs.declared.Verdict.{Verdict};
-ghost use Rattle.message.specs.Reading.{Judged, cut};
+ghost use Rattle.reader.specs.Reading.{Judged, cut};
 ghost use Rattle.places.specs.Below.{Below};
 ghost use Rattle.places.specs.Bytes.{numberAt};
 ghost use Rattle.unanswered.specs.Waiting.{waiting, waitingBytes, freeBytes, waitingOf, isAnswer, Proper, place, Apart, FormedAt, Shows, ShowsAt, UnansweredFormed, hasNumber, found, lowestFree};
@@ -158,7 +158,7 @@ fn is_formed(t: &[u8], i: usize, ours: &[u8], partners: &[u8]) -> bool
         Shown::Broken => false,
         Shown::Empty => true,
         Shown::Message => {
-            let q = message::read(text(t, i));
+            let q = reader::read(text(t, i));
             is_proper(t, i, q.record, ours, partners)
         }
     }

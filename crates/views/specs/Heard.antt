@@ -17,8 +17,8 @@ use Rattle.scan.specs.Bools.{known, and-l, both, or-split}
 use Rattle.message.specs.declared.Kind.the-variants.{Rla}
 use Rattle.message.specs.declared.Verdict.the-variants.{Read}
 use Rattle.message.specs.declared.Record.{Record}
-use Rattle.message.specs.Reading.{Judged}
-use Rattle.message.specs.Reader.{verdict}
+use Rattle.reader.specs.Reading.{Judged}
+use Rattle.reader.specs.Reader.{verdict}
 use Rattle.head.specs.declared.Standing.{Standing}
 use Rattle.head.specs.declared.Standing.the-variants.{New, Old, Stale}
 use Rattle.head.specs.Head.{standing}

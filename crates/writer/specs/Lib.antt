@@ -1,4 +1,1 @@
-pub mod Writing
-pub mod Writer
-pub mod Comparing
 pub mod Written

@@ -1,7 +1,7 @@
 -- `compose::add_changes` meets its contract.
 use borrow.Author.Needs.{needs}
 use mathlib.Core.List.{[], _∷_}
-use Rattle.compose.specs.Laying.{then, pair-both}
+use Rattle.pen.specs.Laying.{then, pair-both}
 use Rattle.compose.proofs.add_changes.Statement.{statement}
 use Rattle.compose.proofs.add_changes.Tie as tie
 

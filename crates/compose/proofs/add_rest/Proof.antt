@@ -1,6 +1,6 @@
 -- `compose::add_rest` meets its contract.
 use borrow.Author.Needs.{needs}
-use Rattle.compose.specs.Laying.{then}
+use Rattle.pen.specs.Laying.{then}
 use Rattle.compose.proofs.add_rest.Statement.{statement}
 use Rattle.compose.proofs.add_rest.Tie as tie
 

@@ -1,6 +1,6 @@
 -- `compose::lay_as` meets its contract.
 use borrow.Author.Needs.{needs}
-use Rattle.compose.specs.Laying.{then}
+use Rattle.pen.specs.Laying.{then}
 use Rattle.compose.proofs.lay_as.Statement.{statement}
 use Rattle.compose.proofs.lay_as.Tie as tie
 

@@ -3,7 +3,7 @@ use borrow.Author.Needs.{needs}
 use mathlib.Core.Path.{sym, ap}
 use mathlib.Core.List.{[], _++_}
 use Rattle.message.specs.declared.Kind.{Kind}
-use Rattle.compose.specs.Laying.{opening, alike}
+use Rattle.pen.specs.Laying.{opening, alike}
 use Rattle.compose.proofs.open_text.Statement.{statement}
 use Rattle.compose.proofs.open_text.Tie as tie
 

@@ -1,6 +1,6 @@
 -- `deeds::or_own` meets its contract.
 use mathlib.Core.Path.{_∙_}
-use Rattle.message.specs.Reading.{cut}
+use Rattle.reader.specs.Reading.{cut}
 use Rattle.deeds.specs.Laws.{none-given, one-given}
 use Rattle.deeds.proofs.or_own.Statement.{statement}
 use Rattle.deeds.proofs.or_own.Tie as tie

@@ -4,7 +4,7 @@ use mathlib.Core.Path.{ap}
 use mathlib.Core.List.{List, [], _++_, append-nil}
 use Prim.Native.Nat.{ℕ}
 use native.Mathlib.Omega.{arith}
-use Rattle.compose.specs.Laying.{ledBy, textAlternates, changeSpans, then}
+use Rattle.pen.specs.Laying.{ledBy, textAlternates, changeSpans, then}
 use Rattle.excerpt.specs.Excerpt.{textsOf}
 use Rattle.excerpt.specs.Fitting.{stretch, starts}
 use Rattle.excerpt.proofs.rest_16.Statement.{statement}

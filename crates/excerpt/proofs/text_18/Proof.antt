@@ -2,7 +2,7 @@
 use borrow.Author.Needs.{needs}
 use mathlib.Core.List.{append-nil}
 use native.Mathlib.Omega.{arith}
-use Rattle.compose.specs.Laying.{changeSpans}
+use Rattle.pen.specs.Laying.{changeSpans}
 use Rattle.excerpt.specs.Excerpt.{textsOf}
 use Rattle.excerpt.specs.Fitting.{stretch, starts}
 use Rattle.excerpt.proofs.text_18.Statement.{statement}

@@ -2,8 +2,8 @@
 use borrow.Author.Needs.{needs}
 use mathlib.Core.Path.{subst}
 use Rattle.message.specs.declared.Verdict.{Verdict}
-use Rattle.message.specs.Reading.{Judged}
-use Rattle.message.specs.Reader.{read-derived}
+use Rattle.reader.specs.Reading.{Judged}
+use Rattle.reader.specs.Reader.{read-derived}
 use Rattle.hearing.proofs.kept_record.Statement.{statement}
 use Rattle.hearing.proofs.kept_record.Tie as tie
 

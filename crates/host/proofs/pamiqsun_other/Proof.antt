@@ -1,6 +1,6 @@
 -- `host::pamiqsun_other` meets its contract.
 use borrow.Author.Needs.{needs}
-use Rattle.message.specs.Reading.{other}
+use Rattle.reader.specs.Reading.{other}
 use Rattle.host.specs.Ways.{words-read, words-refused}
 use Rattle.host.proofs.pamiqsun_other.Statement.{statement}
 use Rattle.host.proofs.pamiqsun_other.Tie as tie

@@ -1,6 +1,6 @@
 -- `host::pamiqsun_route` meets its contract.
 use borrow.Author.Needs.{needs}
-use Rattle.message.specs.Reading.{route}
+use Rattle.reader.specs.Reading.{route}
 use Rattle.host.specs.Ways.{words-read, words-refused}
 use Rattle.host.proofs.pamiqsun_route.Statement.{statement}
 use Rattle.host.proofs.pamiqsun_route.Tie as tie

@@ -4,7 +4,7 @@ use mathlib.Core.Path.{refl, ap, _∙_}
 use mathlib.Core.List.{List, _++_}
 use Prim.Native.Nat.{ℕ}
 use native.Mathlib.Omega.{arith}
-use Rattle.list.specs.Listing.{brokeOff}
+use Rattle.lines.specs.Listing.{brokeOff}
 use Rattle.splice.specs.Splicing.{then, front, behind}
 use Rattle.list.proofs.Progressing.{broken-off}
 use Rattle.list.proofs.broke.Statement.{statement}

@@ -4,7 +4,7 @@ use Prim.Native.Nat.{_+_, _-_, _≤_, _<_}
 use native.Mathlib.Omega.{arith}
 use lib.ListN.{length}
 use Rattle.list.specs.Progress.{mostLines, room}
-use Rattle.list.proofs.Lines.{at-most-one}
+use Rattle.lines.proofs.Lines.{at-most-one}
 use Rattle.list.proofs.Progressing.{Going, going-start, going-part, going-line, part-within, may-go, must-stop, sound-of}
 use Rattle.list.proofs.feed_lines.Statement.{statement}
 use Rattle.list.proofs.feed_lines.Tie as tie

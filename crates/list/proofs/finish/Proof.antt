@@ -6,7 +6,7 @@ use mathlib.Core.List.{List, _++_}
 use Prim.Native.Nat.{ℕ, _+_, _≤_}
 use native.Mathlib.Omega.{arith}
 use Rattle.splice.specs.Splicing.{then, front, behind}
-use Rattle.list.proofs.Lines.{at-most-one}
+use Rattle.lines.proofs.Lines.{at-most-one}
 use Rattle.list.proofs.Progressing.{Sound, sound-of, unsound, finish-even, finish-odd}
 use Rattle.list.proofs.finish.Statement.{statement}
 use Rattle.list.proofs.finish.Tie as tie

@@ -1,7 +1,7 @@
 -- `list::put_totals` meets its contract. Assumes nothing.
 use borrow.Author.Needs.{needs}
 use native.Mathlib.Omega.{arith}
-use Rattle.list.specs.Listing.{totals}
+use Rattle.lines.specs.Listing.{totals}
 use Rattle.splice.specs.Splicing.{then}
 use Rattle.list.proofs.put_totals.Statement.{statement}
 use Rattle.list.proofs.put_totals.Tie as tie

@@ -1,7 +1,7 @@
 -- `list::start` meets its contract: there is no line yet. Assumes nothing.
 use mathlib.Core.Path.{refl}
 use native.Mathlib.Omega.{arith}
-use Rattle.list.specs.Listing.{endedFrom, unfinishedFrom, linesFrom, readOf}
+use Rattle.lines.specs.Listing.{endedFrom, unfinishedFrom, linesFrom, readOf}
 use Rattle.list.proofs.start.Statement.{statement}
 use Rattle.list.proofs.start.Tie as tie
 

@@ -2,7 +2,7 @@
 use borrow.Author.Needs.{needs}
 use mathlib.Core.Path.{subst}
 use Rattle.message.specs.declared.Verdict.{Verdict}
-use Rattle.message.specs.Reading.{Judged}
+use Rattle.reader.specs.Reading.{Judged}
 use Rattle.recorded.proofs.take.Statement.{statement}
 use Rattle.recorded.proofs.take.Tie as tie
 

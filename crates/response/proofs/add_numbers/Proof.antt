@@ -1,6 +1,6 @@
 -- `response::add_numbers` meets its contract.
 use borrow.Author.Needs.{needs}
-use Rattle.compose.specs.Laying.{then}
+use Rattle.pen.specs.Laying.{then}
 use Rattle.response.proofs.add_numbers.Statement.{statement}
 use Rattle.response.proofs.add_numbers.Tie as tie
 

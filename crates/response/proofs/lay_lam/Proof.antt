@@ -1,6 +1,6 @@
 -- `response::lay_lam` meets its contract.
 use borrow.Author.Needs.{needs}
-use Rattle.compose.specs.Laying.{then}
+use Rattle.pen.specs.Laying.{then}
 use Rattle.response.proofs.lay_lam.Statement.{statement}
 use Rattle.response.proofs.lay_lam.Tie as tie
 

@@ -7,14 +7,14 @@ use mathlib.Core.List.{List}
 use Prim.Native.Nat.{ℕ}
 use Rattle.scan.specs.Bools.{Decides}
 use Rattle.message.specs.declared.Verdict.the-variants.{Read}
-use Rattle.message.specs.Reading.{Judged}
+use Rattle.reader.specs.Reading.{Judged}
 use Rattle.unanswered.specs.declared.Shown.{Shown}
 use Rattle.unanswered.specs.declared.Shown.the-variants.{Broken, Empty, Message}
 use Rattle.unanswered.specs.Waiting.{waitingOf, place, FormedAt, ShowsAt}
 use Rattle.unanswered.specs.Deciding.{proper-read}
 use Rattle.unanswered.specs.Formed.{broken-at, proper-at}
 use Rattle.deeds.specs.Message.{messageOf}
-use Rattle.sending.specs.Asked.{is-naming, is-making}
+use Rattle.asking.specs.Asked.{is-naming, is-making}
 use Rattle.sending.specs.Survey.{sees-broken, sees-empty, sees-message}
 use Rattle.sending.proofs.see.Statement.{statement}
 use Rattle.sending.proofs.see.Tie as tie

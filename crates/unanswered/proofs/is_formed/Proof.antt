@@ -3,7 +3,7 @@ use borrow.Author.Needs.{needs}
 use mathlib.Core.Path.{_≡_, subst}
 use mathlib.Core.List.{List}
 use Prim.Native.Nat.{ℕ}
-use Rattle.message.specs.Reading.{Judged}
+use Rattle.reader.specs.Reading.{Judged}
 use Rattle.unanswered.specs.declared.Shown.{Shown}
 use Rattle.unanswered.specs.declared.Shown.the-variants.{Broken, Empty, Message}
 use Rattle.unanswered.specs.Waiting.{ShowsAt}

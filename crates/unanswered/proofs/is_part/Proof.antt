@@ -6,7 +6,7 @@ use native.Mathlib.Omega.{arith}
 use lib.ListN.{take, drop}
 use Rattle.scan.specs.Bools.{decides-by}
 use Rattle.places.specs.Bytes.{same, same-is}
-use Rattle.message.specs.Reading.{cut}
+use Rattle.reader.specs.Reading.{cut}
 use Rattle.unanswered.proofs.is_part.Statement.{statement}
 use Rattle.unanswered.proofs.is_part.Tie as tie
 

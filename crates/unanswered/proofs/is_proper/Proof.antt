@@ -6,7 +6,7 @@ use Prim.Native.Nat.{ℕ, _+_, _-_, _*_, _≤_}
 use native.Mathlib.Omega.{arith}
 use lib.ListN.{length, take, drop}
 use Rattle.scan.specs.Bools.{decides-and, equals}
-use Rattle.message.specs.Reading.{Judged}
+use Rattle.reader.specs.Reading.{Judged}
 use Rattle.places.specs.Bytes.{numberAt, at-most}
 use Rattle.unanswered.specs.Waiting.{waiting, place}
 use Rattle.unanswered.specs.Deciding.{sender-within, receiver-within, proper-is, no-answer, read-off}

@@ -1,0 +1,2 @@
+pub mod SetUp
+pub mod Beginning

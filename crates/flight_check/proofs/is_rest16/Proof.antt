@@ -1,0 +1,12 @@
+-- `flight_check::is_rest16` meets its contract.
+use Rattle.fields.specs.Fields.{rest16}
+use Rattle.flights.specs.Stretches.{told-by}
+use Rattle.flights.specs.Rules.{good-rest16}
+use Rattle.flight_check.proofs.is_rest16.Statement.{statement}
+use Rattle.flight_check.proofs.is_rest16.Tie as tie
+
+returns : tie.Need-returns
+returns c = let a = c .before .before .before .args in told-by (rest16 0) good-rest16 (a .t .now) _ _ (c .before .rest16 .ensures) (c .whole .ensures)
+
+pub is-rest16-spec : {M : Type 1} → statement M
+is-rest16-spec = tie.close (tie.spec (λ c κs. tt) (λ c κs. tt) returns)

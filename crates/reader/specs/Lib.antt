@@ -1,0 +1,3 @@
+pub mod Reading
+pub mod Hyphens
+pub mod Reader

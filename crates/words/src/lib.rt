@@ -1,0 +1,133 @@
+// Words and the single blanks between them, read eight bytes at a time.
+ghost use mathlib.Core.Path.{_≡_};
+ghost use mathlib.Core.Bool.{false};
+ghost use Prim.Native.Nat.{_<_};
+ghost use Rattle.scan.specs.Grammar.{isIn, words as wordsG};
+ghost use lib.ListN.{length};
+ghost use Rattle.scan.specs.declared.Class.the-variants.{Word};
+ghost use Rattle.words.specs.Blocks.{cleanFrom};
+ghost use Rattle.scan.specs.Scanner.{wordsAt, scan};
+use scan::Class;
+use scan::Scan;
+
+// Where words stand after some of their bytes: the next byte, how many still fit, and whether a word byte stands just before.
+struct Ahead {
+    next: usize,
+    left: usize,
+    mid: bool,
+}
+
+// The word bytes from 39 to 90, a bit for each, the lowest for 39.
+const WORDS: u64 = 4503599578087345;
+
+// Whether a byte is a word byte. Outside of the blocks bytes go one by one, and a bit of a number costs the least.
+fn is_word(b: u8) -> bool
+    ensures { λ r. ⌜ r ≡ isIn Word b ⌝ }
+{
+    if b < 39 {
+        return false;
+    }
+    if 90 < b {
+        return false;
+    }
+    (WORDS >> (b - 39)) % 2 == 1
+}
+
+// Whether each byte after the first is a word byte, or a blank after a byte that is no blank.
+// It looks at every byte before it answers: a loop with no way out becomes vector code.
+// The flag is kept by `&`: with an `if` around `bad = 1` the compiler made no vectors of so many tests.
+fn words_block(t: &[u8]) -> bool
+    requires { ⌜ 0 < length (now t) ⌝ }
+    ensures { λ r. ⌜ r ≡ cleanFrom (now (t .entry)) 1 ⌝ }
+{
+    let mut ok = true;
+    let mut j = 1;
+    while j < t.len() {
+        let w = scan::is_in(Class::Word, t[j]);
+        let b = scan::is_in(Class::Byte(b' '), t[j]);
+        let p = scan::is_in(Class::Byte(b' '), t[j - 1]);
+        ok = ok & (w | (!p & b));
+        j += 1;
+    }
+    ok
+}
+
+// How far words go by blocks of sixteen bytes. Each block is seen with the byte before it, so the first byte goes alone.
+// A block is passed only where a byte more fits, so a blank at its end is within the limit.
+fn words_ahead(s: &[u8], i: usize, k: usize) -> Ahead
+    ensures { λ r. ⌜ wordsAt (r .left) (r .mid) (now (s .entry)) (r .next) ≡ wordsAt k false (now (s .entry)) i ⌝ }
+{
+    if k <= 17 {
+        return Ahead {
+            next: i,
+            left: k,
+            mid: false,
+        };
+    }
+    if s.len() <= i {
+        return Ahead {
+            next: i,
+            left: k,
+            mid: false,
+        };
+    }
+    if !scan::is_in(Class::Word, s[i]) {
+        return Ahead {
+            next: i,
+            left: k,
+            mid: false,
+        };
+    }
+    let mut j = i;
+    let mut left = k - 1;
+    while 16 < left {
+        if s.len() < j + 17 {
+            break;
+        }
+        if !words_block(&s[j..j + 17]) {
+            break;
+        }
+        j += 16;
+        left -= 16;
+    }
+    let blank = scan::is_in(Class::Byte(b' '), s[j]);
+    Ahead {
+        next: j + 1,
+        left,
+        mid: !blank,
+    }
+}
+
+// Runs of word bytes with one blank between, at most k bytes.
+pub fn words(s: &[u8], r: Scan, k: usize) -> Scan
+    ensures { λ q. ⌜ q ≡ scan (wordsG k) (now (s .entry)) r ⌝ }
+{
+    if !r.ok {
+        return r;
+    }
+    let a = words_ahead(s, r.next, k);
+    let mut i = a.next;
+    let mut left = a.left;
+    let mut m = a.mid;
+    while 0 < left {
+        if s.len() <= i {
+            return Scan { next: i, ok: m };
+        }
+        let b = s[i];
+        if is_word(b) {
+            m = true;
+            i += 1;
+            left -= 1;
+        } else {
+            let blank = scan::is_in(Class::Byte(b' '), b);
+            if m & blank & (1 < left) {
+                m = false;
+                i += 1;
+                left -= 1;
+            } else {
+                return Scan { next: i, ok: m };
+            }
+        }
+    }
+    Scan { next: i, ok: m }
+}
