@@ -1,4 +1,4 @@
-// A flight changed by a CHG, field by field.
+// A flight's record changed by a CHG, field by field.
 ghost use Prim.Native.Nat.{_<_};
 ghost use Rattle.reader.specs.Reading.{cut};
 ghost use Rattle.excerpt.specs.Excerpt.{textsOf, FitsIn};

@@ -1,5 +1,6 @@
 // Lays out the text of a record: the parts in the order of their fields, with what stands between them. Whether it is a text
 // that is read is not asked here.
+ghost use mathlib.Core.Path.{_≡_};
 ghost use mathlib.Core.List.{List, [], _∷_};
 ghost use Prim.Native.Nat.{ℕ};
 ghost use Rattle.pen.specs.Laying.{Adds, ownBlocks, ownSpans, changeBlocks, changeSpans, restBlocks, restSpans, start, opening, blocks, spans};
@@ -13,34 +14,35 @@ use types::Parts;
 fn add_own(text: &mut [u8], p: Pen, d: &[u8], o: Plan, e: Estimate) -> Pen
     ensures { λ r. ⌜ Adds (now (d .entry)) (now (text .entry)) p (ownBlocks (now (d .entry)) o e) (ownSpans o e) (now (text .exit)) r ⌝ }
 {
-    let p1 = field_texts::add_07(text, p, d, b"-", o.aircraft, o.code);
-    let p2 = field_texts::add_pair(text, p1, d, b"-", o.rules, o.flight);
-    let p3 = field_texts::add_09(text, p2, d, b"-", o.count, o.model, o.wake);
-    let p4 = field_texts::add_10(text, p3, d, b"-", o.equipment, o.surveillance);
-    let p5 = field_texts::add_pair(text, p4, d, b"-", o.departure, o.time);
+    let lead: &[u8] = b"-";
+    let p1 = field_texts::add_07(text, p, d, lead, o.aircraft, o.code);
+    let p2 = field_texts::add_pair(text, p1, d, lead, o.rules, o.flight);
+    let p3 = field_texts::add_09(text, p2, d, lead, o.count, o.model, o.wake);
+    let p4 = field_texts::add_10(text, p3, d, lead, o.equipment, o.surveillance);
+    let p5 = field_texts::add_pair(text, p4, d, lead, o.departure, o.time);
     let p6 = field_texts::add_14(
         text,
         p5,
         d,
-        b"-",
+        lead,
         e.point,
         e.over,
         e.crossing,
         e.second,
         e.sense,
     );
-    let p7 = field_texts::add_15(text, p6, d, b"-", o.speed, o.level, o.route);
+    let p7 = field_texts::add_15(text, p6, d, lead, o.speed, o.level, o.route);
     let p8 = field_texts::add_16(
         text,
         p7,
         d,
-        b"-",
+        lead,
         o.destination,
         o.elapsed,
         o.alternate,
         o.alternate2,
     );
-    field_texts::add_18(text, p8, d, b"-", o.indicator, o.other)
+    field_texts::add_18(text, p8, d, lead, o.indicator, o.other)
 }
 
 // The fields within field 22, in ascending order.
@@ -67,23 +69,29 @@ fn add_changes(text: &mut [u8], p: Pen, d: &[u8], o: Plan) -> Pen
 }
 
 // "(" and the letters of the type; of no type there is a text that is not read.
+fn letters_of(k: Kind) -> [u8; 4]
+    ensures { λ r. ⌜ r ≡ opening k ⌝ }
+{
+    match k {
+        Kind::None => [b'(', b' ', b' ', b' '],
+        Kind::Fpl => [b'(', b'F', b'P', b'L'],
+        Kind::Cpl => [b'(', b'C', b'P', b'L'],
+        Kind::Est => [b'(', b'E', b'S', b'T'],
+        Kind::Chg => [b'(', b'C', b'H', b'G'],
+        Kind::Cnl => [b'(', b'C', b'N', b'L'],
+        Kind::Rti => [b'(', b'R', b'T', b'I'],
+        Kind::Rta => [b'(', b'R', b'T', b'A'],
+        Kind::Rla => [b'(', b'R', b'L', b'A'],
+        Kind::Lam => [b'(', b'L', b'A', b'M'],
+        Kind::Lrm => [b'(', b'L', b'R', b'M'],
+    }
+}
+
 pub fn open_text(text: &mut [u8], k: Kind) -> Pen
     ensures { λ r. ⌜ ((d : List ℕ) → Adds d (now (text .entry)) start (opening k ∷ []) [] (now (text .exit)) r) ⌝ }
 {
-    let p = Pen { at: 0, ok: true };
-    match k {
-        Kind::None => pen::add(text, p, b"(   "),
-        Kind::Fpl => pen::add(text, p, b"(FPL"),
-        Kind::Cpl => pen::add(text, p, b"(CPL"),
-        Kind::Est => pen::add(text, p, b"(EST"),
-        Kind::Chg => pen::add(text, p, b"(CHG"),
-        Kind::Cnl => pen::add(text, p, b"(CNL"),
-        Kind::Rti => pen::add(text, p, b"(RTI"),
-        Kind::Rta => pen::add(text, p, b"(RTA"),
-        Kind::Rla => pen::add(text, p, b"(RLA"),
-        Kind::Lam => pen::add(text, p, b"(LAM"),
-        Kind::Lrm => pen::add(text, p, b"(LRM"),
-    }
+    let letters = letters_of(k);
+    pen::add(text, Pen { at: 0, ok: true }, &letters)
 }
 
 // What follows the number.

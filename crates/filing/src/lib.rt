@@ -1,4 +1,4 @@
-// A flight stored from a plan.
+// A flight's record filled from a plan.
 ghost use mathlib.Core.Path.{_≡_};
 ghost use mathlib.Core.List.{[]};
 ghost use Prim.Native.Nat.{_≤_, _<_};

@@ -4,17 +4,15 @@ use mathlib.Core.Logic.{inl, inr}
 use mathlib.Core.Bool.{Bool, true, false, cond, not, _&&_}
 use mathlib.Core.List.{List}
 use mathlib.Core.Option.{Option, none, some}
-use Prim.Native.Nat.{ℕ, _*_, _/_, _<_}
+use Prim.Native.Nat.{ℕ, _*_, _<_}
 use native.Mathlib.Omega.{arith}
 use lib.ListN.{length, replicate, length-append, length-replicate}
 use lib.Dec.{eqb}
-use Rattle.splice.specs.Splice.{splice}
-use Rattle.splice.specs.Inside.{length-splice}
 use Rattle.places.specs.Bytes.{same}
 use Rattle.places.specs.Search.{firstFrom, countFrom}
-use Rattle.places.specs.Places.{Places, isFree, get, set, firstOf, used, Every, every-as, every-of}
+use Rattle.places.specs.Places.{Places, isFree, get, firstOf, used, Every, every-as, every-of}
 use Rattle.places.specs.Forms.{Form, bytesOr, bytesOf, placesFrom}
-use Rattle.places.specs.Stored.{Kept, Fits, length-places, length-bytes, get-places, bytes-back, places-back, first-places, used-places, places-splice}
+use Rattle.places.specs.Stored.{Kept, Fits, length-places, length-bytes, get-places, bytes-back, places-back, first-places, used-places}
 use Rattle.flights.specs.Padding.{inRow}
 use Rattle.flights.specs.Flight.{Status, filed, active, Flight, statusByte, widths, textsOf, recordOf, flightOf, Sound, WellFormed}
 use Rattle.flights.specs.Records.{texts-neat, flight-back}
@@ -125,14 +123,3 @@ free-places t =
 pub used-in : (t : List ℕ) → inUse t ≡ used (flightsIn t)
 used-in t =
     (λ j. countFrom (λ i. not (free-is (free (place i t)) (flightOf (place i t)) j)) (places t) 0) ∙ sym (used-places flightForm (places t) t)
-
--- A RECORD THAT IS WRITTEN is the flight that the place then holds
-
-module _ (t : List ℕ) (i : ℕ) (h : i < places t) (whole : length t ≡ places t * 768) where
-  put-place : (b : List ℕ) (y : Option Flight) → length b ≡ 768 → readFlight b ≡ y → flightsIn (splice (i * 768) b t) ≡ set i y (flightsIn t)
-  put-place b y l e =
-      let n : places (splice (i * 768) b t) ≡ places t = ap (λ (k : ℕ). k / 768) (length-splice (i * 768) b t (omega arith)) in
-      ap (λ (k : ℕ). placesFrom flightForm k (splice (i * 768) b t)) n ∙ places-splice flightForm i (places t) y b t h whole l e
-
-  pub put-flight : (f : Flight) → Sound f → flightsIn (splice (i * 768) (recordOf f) t) ≡ set i (some f) (flightsIn t)
-  put-flight f s = put-place (recordOf f) (some f) (record-long f (neat-fit widths (textsOf f) (texts-neat f s))) (read-record f s)

@@ -1,4 +1,4 @@
-// One end of a link: the calls.
+// One end of a link: a text comes, or is asked for again. Setting up stands in beginning, sending in dispatch.
 ghost use lib.ListN.{length};
 ghost use Rattle.reader.specs.Reading.{Judged};
 ghost use Rattle.message.specs.declared.Verdict.the-variants.{Read};

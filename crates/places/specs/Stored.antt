@@ -8,7 +8,7 @@ use native.Mathlib.Nat.{zero-mul, suc-mul, add-comm}
 use native.Mathlib.Numerals.{add-one}
 use native.Mathlib.Omega.{arith}
 use lib.ListN.{length, take, drop, replicate, length-append, length-drop, take-append-drop, replicate-append-replicate}
-use lib.Seq.{length-take-le, take-at, drop-at, drop-drop}
+use lib.Seq.{take-at, drop-at, drop-drop}
 use Rattle.splice.specs.Splice.{splice}
 use Rattle.splice.specs.Inside.{splice-front, splice-behind}
 use Rattle.places.specs.declared.Place.the-variants.{At}
@@ -123,20 +123,3 @@ module _ {A : Type 0} (F : Form A) where
   bytes-set (suc i) y (x ∷ l) h f e =
       let m : suc i * F .width ≡ F .width + i * F .width = suc-mul i (F .width) ∙ add-comm (i * F .width) (F .width) in
       ap (λ (u : List ℕ). bytesOr F x ++ u) (bytes-set i y l (omega arith) f (e .1)) ∙ sym (ap (λ (k : ℕ). splice k (bytesOr F y) (bytesOr F x ++ bytesOf F l)) m ∙ splice-behind (bytesOr F x) (bytesOf F l) (bytesOr F y) (F .width) (i * F .width) (e .0))
-
-  -- the same, over the bytes: what is written to place i of t is what is then read there
-  pub places-splice : (i k : ℕ) (y : Option A) (b t : List ℕ) → i < k → length t ≡ k * F .width → length b ≡ F .width → F .read b ≡ y → placesFrom F k (splice (i * F .width) b t) ≡ set i y (placesFrom F k t)
-  unfolding placesFrom set
-  places-splice i zero y b t h n l e = absurd (omega arith)
-  places-splice zero (suc k) y b t h n l e =
-      let w = F .width in
-      let p : length (take w t) ≡ length b = length-take-le w t (omega (arith, n, suc-mul k w)) ∙ sym l in
-      let s : splice (0 * w) b t ≡ b ++ drop w t = (λ j. splice (zero-mul w j) b (sym (take-append-drop w t) j)) ∙ splice-front b (take w t) (drop w t) (sym p) in
-      λ j. (ap (λ (u : List ℕ). F .read (take w u)) s ∙ ap (F .read) (take-at b (drop w t) w l) ∙ e) j ∷ (ap (λ (u : List ℕ). placesFrom F k (drop w u)) s ∙ ap (placesFrom F k) (drop-at b (drop w t) w l)) j
-  places-splice (suc i) (suc k) y b t h n l e =
-      let w = F .width in
-      let p : length (take w t) ≡ w = length-take-le w t (omega (arith, n, suc-mul k w)) in
-      let q : length (drop w t) ≡ k * w = omega (arith, length-drop w t, n, suc-mul k w) in
-      let m : suc i * w ≡ w + i * w = suc-mul i w ∙ add-comm (i * w) w in
-      let s : splice (suc i * w) b t ≡ take w t ++ splice (i * w) b (drop w t) = (λ j. splice (m j) b (sym (take-append-drop w t) j)) ∙ splice-behind (take w t) (drop w t) b w (i * w) p in
-      λ j. ap (F .read) (ap (take w) s ∙ take-at (take w t) (splice (i * w) b (drop w t)) w p) j ∷ (ap (placesFrom F k) (ap (drop w) s ∙ drop-at (take w t) (splice (i * w) b (drop w t)) w p) ∙ places-splice i k y b (drop w t) (omega arith) q l e) j

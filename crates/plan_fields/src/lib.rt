@@ -1,4 +1,4 @@
-// The fields of a flight plan, and field 3 with its numbers.
+// Message numbers and the fields of a plan, each with its parts.
 ghost use mathlib.Core.Path.{_≡_};
 ghost use mathlib.Core.Bool.{not, true};
 ghost use Prim.Native.Nat.{_≤_};

@@ -1,4 +1,4 @@
-// One text of a flight set from a part of a message.
+// Texts of a flight's record, each set in its place from a message.
 ghost use mathlib.Core.Path.{_≡_};
 ghost use Prim.Native.Nat.{_+_, _*_, _≤_, _<_};
 ghost use lib.ListN.{length};
@@ -10,8 +10,6 @@ ghost use Rattle.flights.specs.Table.{places, place};
 ghost use Rattle.deeds.specs.Deeds.{withField};
 use scan::Span;
 
-// TEXTS, each in its place of the record.
-
 // A part of the message as it stands.
 pub fn put_part(table: &mut [u8], i: usize, at: usize, width: usize, w: &[u8], q: Span)
     requires { ⌜ (i < places (now table)) × (at + width ≤ 768) × Inside (now w) q × (length (cut (now w) q) ≤ width) ⌝ }
@@ -19,8 +17,6 @@ pub fn put_part(table: &mut [u8], i: usize, at: usize, width: usize, w: &[u8], q
 {
     flights::set_text(table, i, at, width, excerpt::text_in(w, q));
 }
-
-// A FLIGHT THAT IS CHANGED
 
 // A text where it is given.
 pub fn put_given(table: &mut [u8], i: usize, at: usize, width: usize, s: &[u8])

@@ -1,4 +1,4 @@
-// Words and the single blanks between them, read eight bytes at a time.
+// Words and the single blanks between them, by blocks of sixteen bytes.
 ghost use mathlib.Core.Path.{_≡_};
 ghost use mathlib.Core.Bool.{false};
 ghost use Prim.Native.Nat.{_<_};
