@@ -5,9 +5,14 @@
 #include <stdlib.h>
 #include <string.h>
 
-#ifdef OURS
+/* OURS reads by the proved reader, PACKED by the functions for C, which pack the record into 246 bytes: those of the library, or with
+   -DPACKED=ref_read those of the end in C. Else the reader in C reads. */
+#if defined OURS
 size_t measured_read(const unsigned char *s, size_t n);
 size_t measured_rewrite(const unsigned char *s, size_t n, unsigned char *out, size_t room);
+#elif defined PACKED
+#include "link.h"
+int proved_read(const uint8_t *text, size_t text_len, uint8_t *record, size_t record_len, uint64_t *place, uint64_t *hyphens);
 #else
 #include "reader.h"
 #endif
@@ -31,9 +36,16 @@ int main(int argc, char **argv)
         for (i = 0; i < lines; i++) {
             const unsigned char *s = text + starts[i];
             if (argv[3][0] == 'n') { sum += s[0]; continue; }
-#ifdef OURS
+#if defined OURS
             if (!strcmp(argv[3], "rewrite")) sum += measured_rewrite(s, lengths[i], out, sizeof out);
             else sum += measured_read(s, lengths[i]);
+#elif defined PACKED
+            {
+                static uint8_t record[246];
+                uint64_t place = 0, hyphens = 0;
+                PACKED(s, lengths[i], record, sizeof record, &place, &hyphens);
+                sum += place + hyphens + record[i % sizeof record];
+            }
 #else
             {
                 struct pq_record record;
