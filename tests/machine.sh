@@ -17,5 +17,6 @@ if [ "$(uname -m)" != x86_64 ]; then
     need x86_64-linux-gnu-gcc gcc-x86-64-linux-gnu
     need qemu-x86_64 qemu-user
     cc=x86_64-linux-gnu-gcc
-    run='qemu-x86_64 -L /usr/x86_64-linux-gnu'
+    # the C library's functions for the plainest processor are the ones that the emulator runs fastest
+    run='qemu-x86_64 -cpu qemu64 -L /usr/x86_64-linux-gnu'
 fi

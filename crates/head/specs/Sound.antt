@@ -17,10 +17,14 @@ use Rattle.scan.specs.Tests.{some, good}
 use Rattle.scan.specs.Theory.{accepts-of}
 use Rattle.head.specs.declared.Head.{Head}
 
+-- two different names of four letters
+pub record Names (a b : List ℕ) : Type 0 where
+  pub ours : Derives (run Letter 4 4) a
+  pub partners : Derives (run Letter 4 4) b
+  pub different : a ≡ b → ⊥
+
 pub record HeadFormed (h : Head) : Type 0 where
-  pub ours : Derives (run Letter 4 4) (h .ours)
-  pub partners : Derives (run Letter 4 4) (h .partners)
-  pub different : h .ours ≡ h .partners → ⊥
+  pub names : Names (h .ours) (h .partners)
   pub next : h .next ≤ 999
   pub highest : h .highest ≤ 999
 
@@ -33,7 +37,7 @@ name-good = refl
 pub name-is : (t : List ℕ) (q : Scan) → q ≡ scanAt (run Letter 4 4) t 0 → Decides (q .ok && eqb (q .next) (length t)) (Derives (run Letter 4 4) t)
 name-is t q h = let a = accepts-of (run Letter 4 4) name-good t q h in record { yes = a .0; no = a .1 }
 
-four : (a : List ℕ) → length a ≡ 4 → a ≡ getD a 0 0 ∷ getD a 1 0 ∷ getD a 2 0 ∷ getD a 3 0 ∷ []
+pub four : (a : List ℕ) → length a ≡ 4 → a ≡ getD a 0 0 ∷ getD a 1 0 ∷ getD a 2 0 ∷ getD a 3 0 ∷ []
 four [] e = absurd (omega (arith, e))
 four (x ∷ []) e = absurd (omega (arith, e))
 four (x ∷ y ∷ []) e = absurd (omega (arith, e))
@@ -57,12 +61,12 @@ other-four a b m n = go (((eqb (getD a 0 0) (getD b 0 0) && eqb (getD a 1 0) (ge
       no = λ p. ⊎-elim (λ e. absurd (p (d .yes e))) (λ e. ap not e) (known t);
     }
 
-at-most : (m n : ℕ) → Decides (leb m n) (m ≤ n)
+pub at-most : (m n : ℕ) → Decides (leb m n) (m ≤ n)
 at-most m n = record { yes = leb-true m n; no = le-leb m n }
 
 pub head-is : (h : Head) (x y z : Bool) → Decides x (Derives (run Letter 4 4) (h .ours)) → Decides y (Derives (run Letter 4 4) (h .partners)) → Decides z (h .ours ≡ h .partners → ⊥) → Decides ((((x && y) && z) && leb (h .next) 999) && leb (h .highest) 999) (HeadFormed h)
 head-is h x y z a b c =
     decides-as
-    (λ p. record { ours = p .0 .0 .0 .0; partners = p .0 .0 .0 .1; different = p .0 .0 .1; next = p .0 .1; highest = p .1 })
-    (λ f. ((((f .ours, f .partners), f .different), f .next), f .highest))
+    (λ p. record { names = record { ours = p .0 .0 .0 .0; partners = p .0 .0 .0 .1; different = p .0 .0 .1 }; next = p .0 .1; highest = p .1 })
+    (λ f. ((((f .names .ours, f .names .partners), f .names .different), f .next), f .highest))
     (decides-and (decides-and (decides-and (decides-and a b) c) (at-most (h .next) 999)) (at-most (h .highest) 999))

@@ -1,1 +1,3 @@
+pub mod Crosses
+pub mod Hearing
 pub mod Standings

@@ -18,7 +18,12 @@ ghost use Rattle.memory.specs.End.{lent, Formed, endOf};
 ghost use Rattle.rules.specs.Answers.{isAcceptance};
 ghost use Rattle.rules.specs.Receiving.{hearFirst, hearMessage};
 ghost use Rattle.calls.specs.Calls.{Comes};
-ghost use Rattle.replying.specs.Hearing.{begun};
+ghost use Rattle.hearing.specs.Hearing.{begun};
+
+mod arrivals;
+mod crossing;
+mod replying;
+
 use calls::Answer;
 use calls::Outcome;
 use head::Head;

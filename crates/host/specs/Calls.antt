@@ -19,8 +19,8 @@ use Rattle.rules.specs.Sending.{resend}
 use Rattle.calls.specs.declared.Answer.{Answer}
 use Rattle.calls.specs.declared.Outcome.{Outcome}
 use Rattle.calls.specs.Calls.{refusalIn, lengthIn, Called}
-use Rattle.dispatch.specs.Sends.{Sent}
-use Rattle.beginning.specs.SetUp.{SetsUp}
+use Rattle.link.specs.Sends.{Sent}
+use Rattle.link.specs.SetUp.{SetsUp}
 use Rattle.packed.specs.Packed.{packedOf, recordIn}
 use Rattle.head_bytes.specs.Head.{headIn, headBytes}
 

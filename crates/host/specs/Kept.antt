@@ -26,8 +26,8 @@ use Rattle.calls.specs.declared.Answer.{Answer}
 use Rattle.calls.specs.declared.Answer.the-variants.{Done, NotRead, NoRoom, WrongUnits, Stale, NothingUnanswered, WrongAnswer, NamedAlready, TooManyUnanswered, TooFarBack, ConditionFails, TableFull, NotFormed, BreaksRule, BadNames}
 use Rattle.calls.specs.declared.Outcome.{Outcome}
 use Rattle.calls.specs.Calls.{refusalIn, lengthIn, Comes, Called}
-use Rattle.dispatch.specs.Sends.{Sent}
-use Rattle.beginning.specs.SetUp.{SetsUp}
+use Rattle.link.specs.Sends.{Sent}
+use Rattle.link.specs.SetUp.{SetsUp}
 use Rattle.packed.specs.Packed.{recordIn}
 use Rattle.head_bytes.specs.Head.{headIn}
 use Rattle.host.specs.Calls.{Ran, Receives, Sends, SetUp, Resent, packedBy, ReadInto, WroteFrom}

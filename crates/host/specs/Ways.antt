@@ -18,7 +18,7 @@ use Rattle.memory.specs.End.{Memory}
 use Rattle.rules.specs.Sending.{resend}
 use Rattle.calls.specs.declared.Outcome.{Outcome}
 use Rattle.calls.specs.Calls.{refusalIn, lengthIn, Called}
-use Rattle.dispatch.specs.Sends.{Sent}
+use Rattle.link.specs.Sends.{Sent}
 use Rattle.packed.specs.Packed.{packedOf, recordIn}
 use Rattle.head_bytes.specs.Head.{headIn, headBytes}
 use Rattle.head_bytes.specs.Written.{nothing-after}

@@ -164,7 +164,7 @@ pub extern "C" fn pamiqsun_set_up(
     if head.len() != 12 {
         return 12;
     }
-    let o = beginning::set_up(
+    let o = link::beginning::set_up(
         head_bytes::head_in(head),
         ours,
         partners,
@@ -175,7 +175,8 @@ pub extern "C" fn pamiqsun_set_up(
     );
     head_bytes::put_head(head, o.head);
     let a = o.answer;
-    numbers::number_of(a)
+    let t = numbers::tell(a);
+    t.number
 }
 
 // SENDING what the record in 246 bytes says, over the bytes d.
@@ -201,7 +202,7 @@ pub extern "C" fn pamiqsun_send(
         *size = 0;
         return 12;
     }
-    let o = dispatch::send(
+    let o = link::dispatch::send(
         head_bytes::head_in(head),
         unpacked::take(content),
         d,
@@ -213,8 +214,9 @@ pub extern "C" fn pamiqsun_send(
     );
     head_bytes::put_head(head, o.head);
     let a = o.answer;
-    *size = numbers::length_of(a);
-    numbers::number_of(a)
+    let t = numbers::tell(a);
+    *size = t.size;
+    t.number
 }
 
 // RECEIVING: a text from the partner.
@@ -250,10 +252,11 @@ pub extern "C" fn pamiqsun_receive(
     );
     head_bytes::put_head(head, o.head);
     let a = o.answer;
-    *size = numbers::length_of(a);
-    *place = numbers::place_of(a);
-    *hyphens = numbers::hyphens_of(a);
-    numbers::number_of(a)
+    let t = numbers::tell(a);
+    *size = t.size;
+    *place = t.place;
+    *hyphens = t.hyphens;
+    t.number
 }
 
 // RESENDING: the kept text of an unanswered number. Nothing else changes.
@@ -284,6 +287,7 @@ pub extern "C" fn pamiqsun_resend(
         out,
     );
     let a = o.answer;
-    *size = numbers::length_of(a);
-    numbers::number_of(a)
+    let t = numbers::tell(a);
+    *size = t.size;
+    t.number
 }

@@ -20,8 +20,8 @@ use Rattle.rules.specs.Sending.{resend, resendAt, resendHeld}
 use Rattle.calls.specs.declared.Answer.{Answer}
 use Rattle.calls.specs.Calls.{Comes, Called}
 use Rattle.calls.specs.One.{Left, left, sure-left}
-use Rattle.beginning.specs.SetUp.{SetsUp}
-use Rattle.dispatch.specs.Sends.{Sent}
+use Rattle.link.specs.SetUp.{SetsUp}
+use Rattle.link.specs.Sends.{Sent}
 use Rattle.link.specs.One as link
 use Rattle.lend.specs.Outcome.{outcome}
 

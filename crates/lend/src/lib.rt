@@ -6,8 +6,8 @@ ghost use Rattle.memory.specs.End.{lent};
 ghost use Rattle.rules.specs.Receiving.{receive as receiveOf};
 ghost use Rattle.rules.specs.Sending.{resend as resendOf};
 ghost use Rattle.calls.specs.Calls.{Called};
-ghost use Rattle.beginning.specs.SetUp.{SetsUp};
-ghost use Rattle.dispatch.specs.Sends.{Sent};
+ghost use Rattle.link.specs.SetUp.{SetsUp};
+ghost use Rattle.link.specs.Sends.{Sent};
 ghost use Rattle.lend.specs.Outcome.{outcome};
 use calls::Answer;
 use head::Head;
@@ -26,7 +26,7 @@ pub fn set_up(
     ensures { λ a. ⌜ SetsUp (now (ours .entry)) (now (partners .entry)) (now (head .entry)) (lent (now (sent .entry)) (now (received .entry)) (now (unanswered .entry)) (now (answers .entry))) (outcome a (now (head .exit))) (lent (now (sent .exit)) (now (received .exit)) (now (unanswered .exit)) (now (answers .exit))) ⌝ }
 {
     let h = *head;
-    let r = beginning::set_up(h, ours, partners, sent, received, unanswered, answers);
+    let r = link::beginning::set_up(h, ours, partners, sent, received, unanswered, answers);
     *head = r.head;
     r.answer
 }
@@ -45,7 +45,7 @@ pub fn send(
     ensures { λ a. ⌜ Sent (now (d .entry)) r (now (head .entry)) (lent (now (sent .entry)) (now (received .entry)) (now (unanswered .entry)) (now (answers .entry))) (now (out .entry)) (outcome a (now (head .exit))) (lent (now (sent .entry)) (now (received .exit)) (now (unanswered .exit)) (now (answers .entry))) (now (out .exit)) ⌝ }
 {
     let h = *head;
-    let o = dispatch::send(h, r, d, sent, received, unanswered, answers, out);
+    let o = link::dispatch::send(h, r, d, sent, received, unanswered, answers, out);
     *head = o.head;
     o.answer
 }

@@ -17,8 +17,9 @@ use Rattle.rules.specs.Refusals.{receive-numbered, send-numbered, resend-number
 use Rattle.calls.specs.declared.Outcome.{Outcome}
 use Rattle.calls.specs.Calls.{Called}
 use Rattle.calls.specs.One.{left, sure-left, comes-one, called-one}
-use Rattle.beginning.specs.SetUp.{Sizes, Names, SetsUp}
-use Rattle.dispatch.specs.Sends.{Sent}
+use Rattle.head.specs.Sound.{Names}
+use Rattle.link.specs.SetUp.{Sizes, SetsUp}
+use Rattle.link.specs.Sends.{Sent}
 
 module _ {h : Head} {m : Memory} {out : List ℕ} {o p : Outcome} {m′ n′ : Memory} {a b : List ℕ} where
   pub receive-one : (w : List ℕ) → Called (receive (length out) w) h m out o m′ a → Called (receive (length out) w) h m out p n′ b → left o m′ a ≡ left p n′ b

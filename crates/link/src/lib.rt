@@ -7,6 +7,10 @@ ghost use Rattle.deeds.specs.Message.{messageOf};
 ghost use Rattle.rules.specs.Receiving.{hear as hearOf, receive as receiveOf};
 ghost use Rattle.rules.specs.Sending.{resend as resendOf};
 ghost use Rattle.calls.specs.Calls.{Comes, Called};
+
+pub mod beginning;
+pub mod dispatch;
+
 use calls::Answer;
 use calls::Outcome;
 use head::Head;

@@ -6,94 +6,108 @@ ghost use Rattle.calls.specs.Calls.{refusalIn, lengthIn};
 use calls::Answer;
 use writing::Writing;
 
-// Document 01's number of an answer.
-pub fn number_of(a: Answer) -> usize
-    ensures { λ r. ⌜ r ≡ refusalIn a .number ⌝ }
-{
-    match a {
-        Answer::Done(n) => 0,
-        Answer::NotRead(place, before) => 1,
-        Answer::NoRoom => 2,
-        Answer::WrongUnits => 3,
-        Answer::Stale => 4,
-        Answer::NothingUnanswered => 5,
-        Answer::WrongAnswer => 6,
-        Answer::NamedAlready => 7,
-        Answer::TooManyUnanswered => 8,
-        Answer::TooFarBack => 9,
-        Answer::ConditionFails => 10,
-        Answer::TableFull => 11,
-        Answer::NotFormed => 12,
-        Answer::BreaksRule => 13,
-        Answer::BadNames => 14,
-    }
+// What document 01 has an answer tell: its number, the length that it gives, the place and the hyphens before it.
+pub struct Told {
+    pub number: usize,
+    pub size: usize,
+    pub place: usize,
+    pub hyphens: usize,
 }
 
-// The length that it gives.
-pub fn length_of(a: Answer) -> usize
-    ensures { λ r. ⌜ r ≡ lengthIn a ⌝ }
+pub fn tell(a: Answer) -> Told
+    ensures { λ t. ⌜ (t .number ≡ refusalIn a .number) × (t .size ≡ lengthIn a) × (t .place ≡ refusalIn a .place) × (t .hyphens ≡ refusalIn a .before) ⌝ }
 {
     match a {
-        Answer::Done(n) => n,
-        Answer::NotRead(place, before) => 0,
-        Answer::NoRoom => 0,
-        Answer::WrongUnits => 0,
-        Answer::Stale => 0,
-        Answer::NothingUnanswered => 0,
-        Answer::WrongAnswer => 0,
-        Answer::NamedAlready => 0,
-        Answer::TooManyUnanswered => 0,
-        Answer::TooFarBack => 0,
-        Answer::ConditionFails => 0,
-        Answer::TableFull => 0,
-        Answer::NotFormed => 0,
-        Answer::BreaksRule => 0,
-        Answer::BadNames => 0,
-    }
-}
-
-// The place, and the hyphens before it.
-pub fn place_of(a: Answer) -> usize
-    ensures { λ r. ⌜ r ≡ refusalIn a .place ⌝ }
-{
-    match a {
-        Answer::Done(n) => 0,
-        Answer::NotRead(place, before) => place,
-        Answer::NoRoom => 0,
-        Answer::WrongUnits => 0,
-        Answer::Stale => 0,
-        Answer::NothingUnanswered => 0,
-        Answer::WrongAnswer => 0,
-        Answer::NamedAlready => 0,
-        Answer::TooManyUnanswered => 0,
-        Answer::TooFarBack => 0,
-        Answer::ConditionFails => 0,
-        Answer::TableFull => 0,
-        Answer::NotFormed => 0,
-        Answer::BreaksRule => 0,
-        Answer::BadNames => 0,
-    }
-}
-
-pub fn hyphens_of(a: Answer) -> usize
-    ensures { λ r. ⌜ r ≡ refusalIn a .before ⌝ }
-{
-    match a {
-        Answer::Done(n) => 0,
-        Answer::NotRead(place, before) => before,
-        Answer::NoRoom => 0,
-        Answer::WrongUnits => 0,
-        Answer::Stale => 0,
-        Answer::NothingUnanswered => 0,
-        Answer::WrongAnswer => 0,
-        Answer::NamedAlready => 0,
-        Answer::TooManyUnanswered => 0,
-        Answer::TooFarBack => 0,
-        Answer::ConditionFails => 0,
-        Answer::TableFull => 0,
-        Answer::NotFormed => 0,
-        Answer::BreaksRule => 0,
-        Answer::BadNames => 0,
+        Answer::Done(n) => Told {
+            number: 0,
+            size: n,
+            place: 0,
+            hyphens: 0,
+        },
+        Answer::NotRead(place, before) => Told {
+            number: 1,
+            size: 0,
+            place,
+            hyphens: before,
+        },
+        Answer::NoRoom => Told {
+            number: 2,
+            size: 0,
+            place: 0,
+            hyphens: 0,
+        },
+        Answer::WrongUnits => Told {
+            number: 3,
+            size: 0,
+            place: 0,
+            hyphens: 0,
+        },
+        Answer::Stale => Told {
+            number: 4,
+            size: 0,
+            place: 0,
+            hyphens: 0,
+        },
+        Answer::NothingUnanswered => Told {
+            number: 5,
+            size: 0,
+            place: 0,
+            hyphens: 0,
+        },
+        Answer::WrongAnswer => Told {
+            number: 6,
+            size: 0,
+            place: 0,
+            hyphens: 0,
+        },
+        Answer::NamedAlready => Told {
+            number: 7,
+            size: 0,
+            place: 0,
+            hyphens: 0,
+        },
+        Answer::TooManyUnanswered => Told {
+            number: 8,
+            size: 0,
+            place: 0,
+            hyphens: 0,
+        },
+        Answer::TooFarBack => Told {
+            number: 9,
+            size: 0,
+            place: 0,
+            hyphens: 0,
+        },
+        Answer::ConditionFails => Told {
+            number: 10,
+            size: 0,
+            place: 0,
+            hyphens: 0,
+        },
+        Answer::TableFull => Told {
+            number: 11,
+            size: 0,
+            place: 0,
+            hyphens: 0,
+        },
+        Answer::NotFormed => Told {
+            number: 12,
+            size: 0,
+            place: 0,
+            hyphens: 0,
+        },
+        Answer::BreaksRule => Told {
+            number: 13,
+            size: 0,
+            place: 0,
+            hyphens: 0,
+        },
+        Answer::BadNames => Told {
+            number: 14,
+            size: 0,
+            place: 0,
+            hyphens: 0,
+        },
     }
 }
 

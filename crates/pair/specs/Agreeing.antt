@@ -6,7 +6,7 @@ use mathlib.Core.Option.{Option, none, some}
 use mathlib.Core.List.{List}
 use Prim.Native.Nat.{ℕ}
 use native.Mathlib.Omega.{arith}
-use Rattle.kinds.specs.Tools.{get-below, key-yes}
+use Rattle.pair.specs.kinds.Tools.{get-below, key-yes}
 use Rattle.places.specs.declared.Place.{Place}
 use Rattle.places.specs.declared.Place.the-variants.{At, Nowhere}
 use Rattle.flights.specs.Flight.{Flight, recordOf}
@@ -19,14 +19,14 @@ use Rattle.memory.specs.End.{waitingIn}
 use Rattle.rules.specs.Reads.{messageIn}
 use Rattle.rules.specs.Answers.{isAcceptance}
 use Rattle.rules.specs.Sending.{oneOf}
-use Rattle.kinds.specs.Kinds.{Content, own, near, contentOf, messageOf}
-use Rattle.kinds.specs.Views.{View}
-use Rattle.kinds.specs.Ends.{byKey, waitsIn}
-use Rattle.exchange.specs.KindFacts.{Names}
-use Rattle.exchange.specs.Agreement as agreement
-use Rattle.views.specs.Tables.{under-is}
-use Rattle.views.specs.Waits.{waits-some}
-use Rattle.views.specs.Learnt.{content-own, content-near, content-message}
+use Rattle.pair.specs.kinds.Kinds.{Content, own, near, contentOf, messageOf}
+use Rattle.pair.specs.kinds.Views.{View}
+use Rattle.pair.specs.kinds.Ends.{byKey, waitsIn}
+use Rattle.pair.specs.exchange.KindFacts.{Names}
+use Rattle.pair.specs.exchange.Agreement as agreement
+use Rattle.pair.specs.views.Tables.{under-is}
+use Rattle.pair.specs.views.Waits.{waits-some}
+use Rattle.pair.specs.views.Learnt.{content-own, content-near, content-message}
 use Rattle.pair.specs.World.{Side}
 use Rattle.pair.specs.Claims.{bytesAt, recordUnder, Holds, Agrees}
 use Rattle.pair.specs.Followed.{Follows}

@@ -21,16 +21,16 @@ use Rattle.response.specs.Answering.{answerText}
 use Rattle.rules.specs.Refusals.{receive-numbered}
 use Rattle.calls.specs.declared.Outcome.{Outcome}
 use Rattle.calls.specs.Calls.{Called, Comes}
-use Rattle.kinds.specs.Tools.{true-false, none-some, some-inj}
-use Rattle.kinds.specs.Kinds.{Content, contentOf, isYes, againTo, answerKind}
-use Rattle.kinds.specs.Views.{View, Hears}
-use Rattle.kinds.specs.Ends.{viewOf, waitsIn, keptIn}
-use Rattle.exchange.specs.Runs.{num}
-use Rattle.exchange.specs.Agreement as agreement
-use Rattle.answering.specs.Answered.{Answerable}
-use Rattle.keeping.specs.Memory.{sound-of}
-use Rattle.views.specs.Learnt.{content-near, learn-done, learn-none}
-use Rattle.views.specs.Heard.{Heeded}
+use Rattle.pair.specs.kinds.Tools.{true-false, none-some, some-inj}
+use Rattle.pair.specs.kinds.Kinds.{Content, contentOf, isYes, againTo, answerKind}
+use Rattle.pair.specs.kinds.Views.{View, Hears}
+use Rattle.pair.specs.kinds.Ends.{viewOf, waitsIn, keptIn}
+use Rattle.pair.specs.exchange.Runs.{num}
+use Rattle.pair.specs.exchange.Agreement as agreement
+use Rattle.pair.specs.answering.Answered.{Answerable}
+use Rattle.pair.specs.keeping.Memory.{sound-of}
+use Rattle.pair.specs.views.Learnt.{content-near, learn-done, learn-none}
+use Rattle.pair.specs.views.Heard.{Heeded}
 use Rattle.pair.specs.World.{Copy, Among, Side, count, InTime, number, given}
 use Rattle.pair.specs.Came.{Refuses, Gives, came, came-refused, came-done}
 use Rattle.pair.specs.Parts.{hear-seen, hear-refused, Heard, answer-heard}

@@ -14,7 +14,7 @@ use Rattle.unanswered.specs.Waiting.{Waiting}
 use Rattle.memory.specs.End.{End}
 use Rattle.rules.specs.Receiving.{settle}
 use Rattle.calls.specs.declared.Answer.the-variants.{NothingUnanswered}
-use Rattle.beginning.specs.SetUp.{Names}
+use Rattle.head.specs.Sound.{Names}
 use Rattle.pair.specs.World.{here, there}
 use Rattle.pair.specs.Stages.{Past, nothing, wrote, repeated, replied, Stage, across, sent-on, resent-on, heard-on, learnt-on, refused-on, Shown, shown, start, ruling}
 

@@ -8,13 +8,13 @@ use lib.ListN.{length}
 use Rattle.flights.specs.Table.{places}
 use Rattle.memory.specs.End.{End}
 use Rattle.rules.specs.Sending.{fresh}
-use Rattle.kinds.specs.Views.{Fresh}
-use Rattle.kinds.specs.Ends.{viewOf, SoundEnd}
-use Rattle.exchange.specs.Runs as run
-use Rattle.exchange.specs.Runs.{Script}
-use Rattle.exchange.specs.Agreement.{mirrored, mirrored-run, numbered, next-number}
-use Rattle.keeping.specs.Memory.{fresh-sound}
-use Rattle.views.specs.Sent.{fresh-seen}
+use Rattle.pair.specs.kinds.Views.{Fresh}
+use Rattle.pair.specs.kinds.Ends.{viewOf, SoundEnd}
+use Rattle.pair.specs.exchange.Runs as run
+use Rattle.pair.specs.exchange.Runs.{Script}
+use Rattle.pair.specs.exchange.Agreement.{mirrored, mirrored-run, numbered, next-number}
+use Rattle.pair.specs.keeping.Memory.{fresh-sound}
+use Rattle.pair.specs.views.Sent.{fresh-seen}
 use Rattle.pair.specs.World.{Copy, Among, Side, count, given, logged, Turn, sends, resends, hears, learns, Begun, Reach, begin, left, right, Run, rest, thenLeft, thenRight}
 use Rattle.pair.specs.Follows.{script, textAt, text-older, Spells, Kept, next-formed, next-end}
 use Rattle.pair.specs.Steps.{Onward, stays, turns, Next, sends-on, resends-on, hears-on, learns-on}
@@ -46,7 +46,7 @@ module _ {a b : List ℕ} {X : Side} (B : Begun a b X) (σ : ℕ → List ℕ) w
   first-sound =
       let n = B .names in
       let s = B .sizes in
-      fresh-sound a b (places (B .memoryBefore .sent)) (places (B .memoryBefore .received)) (n .ours) (n .partners) (n .different) (s .sent .some) (s .sent .most) (s .received .some) (s .received .most)
+      fresh-sound a b (places (B .memoryBefore .sent)) (places (B .memoryBefore .received)) n (s .sent .some) (s .sent .most) (s .received .some) (s .received .most)
 
   first-fresh : Fresh (viewOf first-end)
   unfolding first-end

@@ -17,13 +17,13 @@ use Rattle.rules.specs.Reads.{messageIn}
 use Rattle.rules.specs.Receiving.{directed}
 use Rattle.response.specs.Answering.{answerText}
 use Rattle.calls.specs.declared.Outcome.{Outcome}
-use Rattle.kinds.specs.Tools.{upd, upd-same, upd-other, same?}
-use Rattle.kinds.specs.Kinds.{contentOf}
-use Rattle.kinds.specs.Ends.{viewOf, SoundEnd}
-use Rattle.answering.specs.Answered.{Answerable}
-use Rattle.exchange.specs.Runs as run
-use Rattle.exchange.specs.Runs.{Script, num, Mem}
-use Rattle.keeping.specs.Memory.{formed-of, end-back}
+use Rattle.pair.specs.kinds.Tools.{upd, upd-same, upd-other, same?}
+use Rattle.pair.specs.kinds.Kinds.{contentOf}
+use Rattle.pair.specs.kinds.Ends.{viewOf, SoundEnd}
+use Rattle.pair.specs.answering.Answered.{Answerable}
+use Rattle.pair.specs.exchange.Runs as run
+use Rattle.pair.specs.exchange.Runs.{Script, num, Mem}
+use Rattle.pair.specs.keeping.Memory.{formed-of, end-back}
 use Rattle.pair.specs.World.{Copy, Among, here, there, Side, count, latest, given, logged, copied, changed, sent, resent, answered}
 use Rattle.pair.specs.Texts.{Says}
 

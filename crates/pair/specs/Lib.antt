@@ -1,3 +1,8 @@
+pub mod kinds
+pub mod exchange
+pub mod views
+pub mod answering
+pub mod keeping
 pub mod World
 pub mod Claims
 pub mod Came

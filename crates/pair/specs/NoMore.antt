@@ -10,15 +10,15 @@ use Rattle.rules.specs.Replies.{Reply, number as by}
 use Rattle.rules.specs.Receiving.{receive}
 use Rattle.calls.specs.declared.Outcome.{Outcome}
 use Rattle.calls.specs.Calls.{Called, Comes}
-use Rattle.kinds.specs.Tools.{none-some}
-use Rattle.kinds.specs.Kinds.{Content}
-use Rattle.kinds.specs.Views.{View}
-use Rattle.kinds.specs.Ends.{waitsIn}
-use Rattle.exchange.specs.Runs as run
-use Rattle.exchange.specs.Runs.{num}
-use Rattle.exchange.specs.Agreement as agreement
-use Rattle.keeping.specs.Memory.{sound-of}
-use Rattle.keeping.specs.Calls.{receive-sound}
+use Rattle.pair.specs.kinds.Tools.{none-some}
+use Rattle.pair.specs.kinds.Kinds.{Content}
+use Rattle.pair.specs.kinds.Views.{View}
+use Rattle.pair.specs.kinds.Ends.{waitsIn}
+use Rattle.pair.specs.exchange.Runs as run
+use Rattle.pair.specs.exchange.Runs.{num}
+use Rattle.pair.specs.exchange.Agreement as agreement
+use Rattle.pair.specs.keeping.Memory.{sound-of}
+use Rattle.pair.specs.keeping.Calls.{receive-sound}
 use Rattle.pair.specs.World.{Copy, Among, here, there, Side, InTime, latest, given, copied, changed, Turn, sends, resends, hears, learns, Reach, left, right, Run, rest, thenLeft, thenRight}
 use Rattle.pair.specs.Claims.{Unanswered}
 use Rattle.pair.specs.Came.{came-refused, came-done}

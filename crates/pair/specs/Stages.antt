@@ -42,12 +42,13 @@ use Rattle.calls.specs.declared.Answer.{Answer}
 use Rattle.calls.specs.declared.Answer.the-variants.{Done}
 use Rattle.calls.specs.declared.Outcome.{Outcome}
 use Rattle.calls.specs.Calls.{refusalIn, Comes, Called}
-use Rattle.beginning.specs.SetUp.{Sized, Sizes, Names}
-use Rattle.dispatch.specs.Sends.{Sent}
-use Rattle.kinds.specs.Tools.{true-false, and-yes}
-use Rattle.kinds.specs.Ends.{SoundEnd}
-use Rattle.keeping.specs.Memory.{formed-of, end-back, fresh-sound}
-use Rattle.keeping.specs.Calls as k
+use Rattle.head.specs.Sound.{Names}
+use Rattle.link.specs.SetUp.{Sized, Sizes}
+use Rattle.link.specs.Sends.{Sent}
+use Rattle.pair.specs.kinds.Tools.{true-false, and-yes}
+use Rattle.pair.specs.kinds.Ends.{SoundEnd}
+use Rattle.pair.specs.keeping.Memory.{formed-of, end-back, fresh-sound}
+use Rattle.pair.specs.keeping.Calls as k
 use Rattle.pair.specs.World.{Copy, Among, Side, latest, given, logged, copied, sent, resent, answered, Turn, sends, resends, hears, learns, Begun, Reach, begin, left, right}
 use Rattle.pair.specs.World as world
 use Rattle.pair.specs.Came.{came-done}
@@ -334,7 +335,7 @@ module _ (v m n : ℕ) (m₁ : 1 ≤ m) (m₂ : m ≤ 32) (n₁ : 1 ≤ n) (n₂
   }
 
   begun-sound : (a b : List ℕ) → Names a b → SoundEnd (fresh a b m n)
-  begun-sound a b x = fresh-sound a b m n (x .ours) (x .partners) (x .different) m₁ m₂ n₁ n₂
+  begun-sound a b x = fresh-sound a b m n x m₁ m₂ n₁ n₂
 
   pub start : (a b : List ℕ) → Names a b → Names b a → Stage a b (fresh a b m n) (fresh b a m n) nothing nothing
   start a b x y = record { reach = begin (begun a b x) (begun b a y); here = begun-sound a b x; there = begun-sound b a y }

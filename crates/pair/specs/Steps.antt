@@ -23,23 +23,23 @@ use Rattle.response.specs.Answering.{answerText}
 use Rattle.rules.specs.Refusals.{receive-numbered, send-numbered, resend-numbered}
 use Rattle.calls.specs.declared.Outcome.{Outcome}
 use Rattle.calls.specs.Calls.{Called, Comes}
-use Rattle.dispatch.specs.Sends.{Sent}
-use Rattle.kinds.specs.Tools.{same?, upd, some-inj}
-use Rattle.kinds.specs.Kinds.{Content, contentOf}
-use Rattle.kinds.specs.Views.{View, Sends, Learns, Hears}
-use Rattle.kinds.specs.Ends.{viewOf, waitsIn}
-use Rattle.exchange.specs.Runs as run
-use Rattle.exchange.specs.Runs.{Script, num, become, grow, tell}
+use Rattle.link.specs.Sends.{Sent}
+use Rattle.pair.specs.kinds.Tools.{same?, upd, some-inj}
+use Rattle.pair.specs.kinds.Kinds.{Content, contentOf}
+use Rattle.pair.specs.kinds.Views.{View, Sends, Learns, Hears}
+use Rattle.pair.specs.kinds.Ends.{viewOf, waitsIn}
+use Rattle.pair.specs.exchange.Runs as run
+use Rattle.pair.specs.exchange.Runs.{Script, num, become, grow, tell}
 use Rattle.pair.specs.World.{Copy, Among, here, there, Side, count, InTime, latest, number, given, Asked, text, answer, unwritten, logged, copied, changed, sent, resent, answered}
 use Rattle.pair.specs.Texts.{Says, draft-says, send-adds, receive-holds}
 use Rattle.pair.specs.Came.{Gives, came, came-refused}
 use Rattle.pair.specs.Follows.{script, text-newest, Spells, Told, Replies, Kept, endIn, sent-none, resent-none, changed-none, answered-none, next-formed, next-end, mem-told, mem-new}
 use Rattle.pair.specs.Parts.{send-sound, send-directed, hear-seen, learn-seen, Heard, answer-heard, waits-held, latest-at}
-use Rattle.answering.specs.Answered.{Answerable}
-use Rattle.keeping.specs.Memory.{sound-of}
-use Rattle.keeping.specs.Calls.{Stays, receive-sound}
-use Rattle.views.specs.Waits.{waits-found}
-use Rattle.views.specs.Sent.{send-seen, resend-seen}
+use Rattle.pair.specs.answering.Answered.{Answerable}
+use Rattle.pair.specs.keeping.Memory.{sound-of}
+use Rattle.pair.specs.keeping.Calls.{Stays, receive-sound}
+use Rattle.pair.specs.views.Waits.{waits-found}
+use Rattle.pair.specs.views.Sent.{send-seen, resend-seen}
 
 -- the run goes on, or stays
 pub data Onward (s : Script) (x y : run.Side) : run.Side → run.Side → Type 0 where

@@ -34,7 +34,7 @@ use Rattle.rules.specs.Reads.{messageIn, read-message}
 use Rattle.rules.specs.Answers.{answerTo, proper, isAcceptance, isOffering}
 use Rattle.rules.specs.Receiving.{directed, waitingAt, settled, settle, settleHeld, settleAt, hearAnswer, retires, retireHeld, retireAt, retired, about, handled, giving, hearFirst, raised, hearAgain, hearOld, hearMessage, hear, receiveBy, receive}
 use Rattle.rules.specs.Sending.{anyWaiting, tooOld, naming, mayBeSent, fills, sending, sendAt, send}
-use Rattle.kinds.specs.Tools.{none-some, some-inj}
+use Rattle.pair.specs.kinds.Tools.{none-some, some-inj}
 
 -- THE END THAT A REPLY LEAVES: every place holds what it holds in f, or nothing
 

@@ -15,8 +15,9 @@ use Rattle.rules.specs.Receiving.{receive}
 use Rattle.rules.specs.Sending.{resend}
 use Rattle.calls.specs.declared.Outcome.{Outcome}
 use Rattle.calls.specs.Calls.{refusalIn, lengthIn, Called}
-use Rattle.beginning.specs.SetUp.{Sizes, Names, SetsUp}
-use Rattle.dispatch.specs.Sends.{Sent}
+use Rattle.head.specs.Sound.{Names}
+use Rattle.link.specs.SetUp.{Sizes, SetsUp}
+use Rattle.link.specs.Sends.{Sent}
 
 -- WHAT THE CHANNEL HAS: copies of texts. `index` says which of its sender's messages it is, or answers, counted from 0
 pub record Copy : Type 0 where

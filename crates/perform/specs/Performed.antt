@@ -25,7 +25,7 @@ use Rattle.deeds.specs.declared.Deed.the-variants.{Files, Enters, Amends, Estim
 use Rattle.deeds.specs.Message.{Message}
 use Rattle.deeds.specs.Deeds.{deedOf, makes, made, amended, estimated, handedOff, becomesOn, begins, becomes}
 use Rattle.deeds.specs.Applying.{doneAt}
-use Rattle.putting.specs.Changing.{Changes}
+use Rattle.perform.specs.Changing.{Changes}
 
 -- the bytes of a place: free, or the record of a flight that fits and that is read off it again
 abbrev pub Held : List ℕ → Type 0

@@ -9,10 +9,15 @@ ghost use Rattle.flights.specs.Table.{places, place, free as isFree};
 ghost use Rattle.flights.specs.Decoded.{readFlight, flightsIn, tableOf};
 ghost use Rattle.deeds.specs.Message.{messageOf};
 ghost use Rattle.deeds.specs.Deeds.{makes, estimated, handedOff, becomes};
-ghost use Rattle.putting.specs.Changing.{Changes};
+ghost use Rattle.perform.specs.Changing.{Changes};
 ghost use Rattle.perform.specs.Performed.{Held, Written};
 ghost use Rattle.flights.specs.Formed.{TableFormed};
 ghost use Rattle.deeds.specs.Applying.{decision, applied};
+
+mod amending;
+mod filing;
+mod putting;
+
 use deeds::Decision;
 use deeds::Deed;
 use message::Record;

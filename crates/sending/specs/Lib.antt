@@ -1,1 +1,4 @@
+pub mod Sent
+pub mod Asked
+pub mod Deciding
 pub mod Survey

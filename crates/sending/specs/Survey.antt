@@ -14,7 +14,7 @@ use Rattle.memory.specs.End.{waitingIn}
 use Rattle.rules.specs.Sending.{anyWaiting, countWaiting, making, naming}
 use Rattle.sending.specs.declared.Seen.{Seen}
 use Rattle.sending.specs.declared.Surveyed.{Surveyed}
-use Rattle.asking.specs.Asked.{usedWith, free-has-none, used-has}
+use Rattle.sending.specs.Asked.{usedWith, free-has-none, used-has}
 
 -- what is seen of place i, for the message m: nothing more of one that is not well formed
 pub record Sees (ours partners : List ℕ) (m : d.Message) (t : List ℕ) (i : ℕ) (x : Seen) : Type 0 where

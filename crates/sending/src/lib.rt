@@ -16,7 +16,11 @@ ghost use Rattle.memory.specs.End.{lent};
 ghost use Rattle.rules.specs.Sending.{send};
 ghost use Rattle.calls.specs.Calls.{Called};
 ghost use Rattle.sending.specs.Survey.{Sees, Counted, Surveys};
-ghost use Rattle.handing.specs.Sent.{Sends};
+ghost use Rattle.sending.specs.Sent.{Sends};
+
+mod asking;
+mod handing;
+
 use calls::Answer;
 use calls::Outcome;
 use head::Head;

@@ -1,11 +1,15 @@
 // The ten types of message: each function mirrors one line of document 01's table and notes where the parts stand.
 ghost use mathlib.Core.Path.{_≡_};
+ghost use mathlib.Core.List.{[], _∷_};
 ghost use Prim.Native.Nat.{_≤_};
 ghost use lib.ListN.{length};
 ghost use Rattle.scan.specs.Grammar.{none};
+ghost use Rattle.scan.specs.Texts.{lit};
+ghost use Rattle.scan.specs.Scanner.{scanAt};
 ghost use Rattle.types.specs.Messages.{opened as openedG, referring as referringG, fpl as fplG, cpl as cplG, est as estG, chg as chgG, cnl as cnlG, rti as rtiG, rta as rtaG, rla as rlaG, lam as lamG, lrm as lrmG, message as messageG};
 ghost use Rattle.types.specs.Scanned.{partsOf, noNumber, noEstimate, openedBy, frontOf, scannedBy};
-ghost use Rattle.types.specs.Picking.{unknownOf, lettersOf};
+ghost use Rattle.types.specs.Arms.{keysOf};
+ghost use Rattle.types.specs.Picking.{unknownOf, fplArm, otherArms, lettersOf};
 use changes::Plan;
 use scan::Scan;
 use scan::Span;
@@ -81,14 +85,21 @@ fn no_estimate() -> Estimate
     }
 }
 
-// "(", the three letters of the type, the number.
-fn opened(s: &[u8], a: u8, b: u8, c: u8) -> Heading
-    ensures { λ q. ⌜ q ≡ openedBy (openedG a b c) (now (s .entry)) ⌝ }
+// "(" and the three letters of the type.
+fn opens(s: &[u8], a: u8, b: u8, c: u8) -> Scan
+    ensures { λ q. ⌜ q ≡ scanAt (lit (40 ∷ a ∷ b ∷ c ∷ [])) (now (s .entry)) 0 ⌝ }
 {
     let r = scan::byte(s, Scan { next: 0, ok: true }, b'(');
     let x = scan::byte(s, r, a);
     let y = scan::byte(s, x, b);
-    let n = plan_fields::number(s, scan::byte(s, y, c));
+    scan::byte(s, y, c)
+}
+
+// The same, and the number.
+fn opened(s: &[u8], a: u8, b: u8, c: u8) -> Heading
+    ensures { λ q. ⌜ q ≡ openedBy (openedG a b c) (now (s .entry)) ⌝ }
+{
+    let n = plan_fields::number(s, opens(s, a, b, c));
     let end = n.end;
     let sender = n.sender;
     let receiver = n.receiver;
@@ -581,21 +592,20 @@ pub fn no_parts() -> Parts
     }
 }
 
-// No type begins as s does: how much of s some type begins with.
-fn unknown(s: &[u8]) -> Scanned
-    ensures { λ q. ⌜ q ≡ unknownOf (now (s .entry)) ⌝ }
+// How much of s some type begins with.
+fn keys(s: &[u8]) -> Scan
+    ensures { λ q. ⌜ q ≡ scanAt (keysOf fplArm otherArms) (now (s .entry)) 0 ⌝ }
 {
-    let r = Scan { next: 0, ok: true };
-    let a = scan::lit(s, r, b"(FPL");
-    let b = scan::lit(s, r, b"(CPL");
-    let c = scan::lit(s, r, b"(EST");
-    let d = scan::lit(s, r, b"(CHG");
-    let e = scan::lit(s, r, b"(CNL");
-    let f = scan::lit(s, r, b"(RTI");
-    let g = scan::lit(s, r, b"(RTA");
-    let h = scan::lit(s, r, b"(RLA");
-    let i = scan::lit(s, r, b"(LAM");
-    let j = scan::lit(s, r, b"(LRM");
+    let a = opens(s, b'F', b'P', b'L');
+    let b = opens(s, b'C', b'P', b'L');
+    let c = opens(s, b'E', b'S', b'T');
+    let d = opens(s, b'C', b'H', b'G');
+    let e = opens(s, b'C', b'N', b'L');
+    let f = opens(s, b'R', b'T', b'I');
+    let g = opens(s, b'R', b'T', b'A');
+    let h = opens(s, b'R', b'L', b'A');
+    let i = opens(s, b'L', b'A', b'M');
+    let j = opens(s, b'L', b'R', b'M');
     let k = scan::longer(i, j);
     let l = scan::longer(h, k);
     let m = scan::longer(g, l);
@@ -604,9 +614,15 @@ fn unknown(s: &[u8]) -> Scanned
     let p = scan::longer(d, o);
     let q = scan::longer(c, p);
     let t = scan::longer(b, q);
-    let u = scan::longer(a, t);
+    scan::longer(a, t)
+}
+
+// No type begins as s does.
+fn unknown(s: &[u8]) -> Scanned
+    ensures { λ q. ⌜ q ≡ unknownOf (now (s .entry)) ⌝ }
+{
     Scanned {
-        end: u,
+        end: keys(s),
         parts: no_parts(),
     }
 }

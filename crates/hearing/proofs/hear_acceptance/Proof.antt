@@ -8,7 +8,7 @@ use Rattle.reader.specs.Reading.{Judged}
 use Rattle.message.specs.declared.Verdict.the-variants.{Read}
 use Rattle.unanswered.specs.Waiting.{waitingOf, place}
 use Rattle.deeds.specs.Message.{messageOf}
-use Rattle.crossing.specs.Crosses.{waits-at, waits-derived, waits-crosses, retires-as, alone-comes, beside-comes, crossing-comes}
+use Rattle.hearing.specs.Crosses.{waits-at, waits-derived, waits-crosses, retires-as, alone-comes, beside-comes, crossing-comes}
 use Rattle.hearing.proofs.hear_acceptance.Statement.{statement}
 use Rattle.hearing.proofs.hear_acceptance.Tie as tie
 

@@ -3,7 +3,7 @@ use borrow.Author.Needs.{needs}
 use mathlib.Core.Path.{sym, ap, _∙_}
 use Rattle.deeds.specs.Message.{messageOf}
 use Rattle.rules.specs.Answers.{isAcceptance}
-use Rattle.replying.specs.Hearing.{plan-comes}
+use Rattle.hearing.specs.Hearing.{plan-comes}
 use Rattle.hearing.proofs.hear_first.Statement.{statement}
 use Rattle.hearing.proofs.hear_first.Tie as tie
 

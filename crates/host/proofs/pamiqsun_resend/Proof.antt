@@ -11,16 +11,15 @@ returns c = record { sized = λ z. absurd (c .if1 .taken z); unsized = λ _. (re
 
 returns-2 : tie.Need-returns-2
 returns-2 c =
-    let o = c .before .before .before .before in
+    let o = c .before .before .before in
     let i = o .before .before in
-    resent (i .head-in .result) (o .resend .result) (omega (arith, i .before .if1 .left)) (i .head-in .ensures .0) (o .resend .ensures) (c .number-of .ensures) (c .before .length-of .ensures)
+    resent (i .head-in .result) (o .resend .result) (omega (arith, i .before .if1 .left)) (i .head-in .ensures .0) (o .resend .ensures) (c .tell .ensures .0) (c .tell .ensures .1)
 
 pub pamiqsun-resend-spec : {M : Type 1} → statement M
 pamiqsun-resend-spec =
     tie.close
     (tie.spec
     returns
-    (λ c κs. search needs)
     (λ c κs. search needs)
     (λ c κs. search needs)
     (λ c κs. search needs)

@@ -15,7 +15,7 @@ returns-2 c =
     let o = p .before .before .before .before .before .before .before .before .before .before in
     let i = o .before .before .before .before .before in
     let e = i .before .before in
-    ran (i .head-in .result) (o .set-up .result) (omega (arith, e .if1 .left)) (i .head-in .ensures) (o .set-up .ensures, c .number-of .ensures) (p .put-head .ensures)
+    ran (i .head-in .result) (o .set-up .result) (omega (arith, e .if1 .left)) (i .head-in .ensures) (o .set-up .ensures, c .tell .ensures .0) (p .put-head .ensures)
 
 pub pamiqsun-set-up-spec : {M : Type 1} → statement M
 pamiqsun-set-up-spec =

@@ -41,7 +41,7 @@ use denote.Triple.Call.{calls-at}
 use denote.Triple.Clauses.{Lasts, atExit, ensured, lasts}
 use denote.Triple.Table.{entered, cited}
 use denote.Triple.Walked.{Stays, stay-ref, walkOf, goes-ref, Walks, ends-at, walked, walk-meets}
-use Rattle.dispatch.specs.Sends.{Sent}
+use Rattle.link.specs.Sends.{Sent}
 use Rattle.memory.specs.End.{lent}
 use Rattle.message.specs.declared.Record.{Record}
 use Rattle.head.specs.declared.Head.{Head}
@@ -55,10 +55,10 @@ use Rattle.head.proofs.Head as Head·
 use Rattle.calls.proofs.Answer as Answer·
 use Rattle.calls.proofs.Outcome as Outcome·
 use Rattle.calls.proofs.Outcome.Laws as Outcome′
-use Rattle.dispatch.proofs.send as core
-use Rattle.dispatch.proofs.send.Symbol as core-def
-use Rattle.dispatch.proofs.send.Symbol.{name as #core}
-use Rattle.dispatch.proofs.send.Met as core-thm
+use Rattle.link.proofs.dispatch.send as core
+use Rattle.link.proofs.dispatch.send.Symbol as core-def
+use Rattle.link.proofs.dispatch.send.Symbol.{name as #core}
+use Rattle.link.proofs.dispatch.send.Met as core-thm
 use Rattle.lend.proofs.send.Key.{name as #f}
 use Rattle.lend.proofs.send as f
 use Rattle.lend.proofs.send.Statement as stated
@@ -284,4 +284,4 @@ send-spec 𝓤 H 𝓜 𝓖 𝓡 =
     entered 𝓤 H (tripleOf 𝓤 H (𝓖 .A) f.signature (f.spec 𝓤 H (𝓖 .A) (𝓜 .mem) (𝓡 .run)))
     (tables 𝓤 H 𝓜 𝓡 code.env .C) (tables 𝓤 H 𝓜 𝓡 code.env .Λ) #f code.function (code.unfolded 𝓤 H 𝓜 𝓡)
     (meets 𝓤 H (𝓖 .A) (givenOf 𝓤 H 𝓜 𝓖) (𝓜 .mem) (𝓡 .run) (tablesOf 𝓤 H 𝓜 (tables 𝓤 H 𝓜 𝓡 code.env))
-    (cited 𝓤 H (Core 𝓤 H (𝓖 .A) (𝓜 .mem) (𝓡 .run)) 𝓜 𝓡 code.env #core core-def.routine code.calls-dispatch·send (core-thm.met 𝓤 H 𝓜 𝓖 𝓡)))
+    (cited 𝓤 H (Core 𝓤 H (𝓖 .A) (𝓜 .mem) (𝓡 .run)) 𝓜 𝓡 code.env #core core-def.routine code.calls-link·dispatch·send (core-thm.met 𝓤 H 𝓜 𝓖 𝓡)))

@@ -7,7 +7,7 @@ use Rattle.flights.specs.Flight.{filed, accepted}
 use Rattle.flights.specs.Made.{byte-filed, byte-none, byte-accepted}
 use Rattle.deeds.specs.Message.{messageOf}
 use Rattle.excerpt.specs.Sizes.{number-small}
-use Rattle.putting.specs.Changing.{handoff-changes}
+use Rattle.perform.specs.Changing.{handoff-changes}
 use Rattle.perform.specs.Performed.{filed-written, entered-written, amended-written, estimated-written, cancelled-written, offered-written, retracted-written, accepted-written, nothing-written}
 use Rattle.perform.proofs.carry_out.Statement.{statement}
 use Rattle.perform.proofs.carry_out.Tie as tie

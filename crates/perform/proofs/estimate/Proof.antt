@@ -3,7 +3,7 @@ use borrow.Author.Needs.{needs}
 use native.Mathlib.Omega.{arith}
 use Rattle.flights.specs.Flight.{active}
 use Rattle.flights.specs.Made.{byte-active}
-use Rattle.putting.specs.Changing.{then, status-changes}
+use Rattle.perform.specs.Changing.{then, status-changes}
 use Rattle.perform.proofs.estimate.Statement.{statement}
 use Rattle.perform.proofs.estimate.Tie as tie
 

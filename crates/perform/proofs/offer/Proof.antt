@@ -3,7 +3,7 @@ use borrow.Author.Needs.{needs}
 use native.Mathlib.Omega.{arith}
 use Rattle.flights.specs.Flight.{offered}
 use Rattle.flights.specs.Made.{byte-offered}
-use Rattle.putting.specs.Changing.{then, handoff-changes, offer-changes}
+use Rattle.perform.specs.Changing.{then, handoff-changes, offer-changes}
 use Rattle.perform.proofs.offer.Statement.{statement}
 use Rattle.perform.proofs.offer.Tie as tie
 

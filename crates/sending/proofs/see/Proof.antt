@@ -14,7 +14,7 @@ use Rattle.unanswered.specs.Waiting.{waitingOf, place, FormedAt, ShowsAt}
 use Rattle.unanswered.specs.Deciding.{proper-read}
 use Rattle.unanswered.specs.Formed.{broken-at, proper-at}
 use Rattle.deeds.specs.Message.{messageOf}
-use Rattle.asking.specs.Asked.{is-naming, is-making}
+use Rattle.sending.specs.Asked.{is-naming, is-making}
 use Rattle.sending.specs.Survey.{sees-broken, sees-empty, sees-message}
 use Rattle.sending.proofs.see.Statement.{statement}
 use Rattle.sending.proofs.see.Tie as tie

@@ -6,8 +6,8 @@ use native.Mathlib.Omega.{arith}
 use borrow.Author.Tests.{not-true, not-false}
 use Rattle.flights.specs.Decoded.{flightsIn}
 use Rattle.deeds.specs.Message.{messageOf}
-use Rattle.asking.specs.Deciding.{holds, making-most, tableFilled}
-use Rattle.handing.specs.Sent.{decided-received, sends-far, sends-named, sends-failing, sends-full, sends-no-room, sends}
+use Rattle.sending.specs.Deciding.{holds, making-most, tableFilled}
+use Rattle.sending.specs.Sent.{decided-received, sends-far, sends-named, sends-failing, sends-full, sends-no-room, sends}
 use Rattle.sending.proofs.send_at.Statement.{statement}
 use Rattle.sending.proofs.send_at.Tie as tie
 

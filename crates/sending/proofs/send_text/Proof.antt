@@ -5,7 +5,7 @@ use mathlib.Core.Path.{sym, _∙_}
 use mathlib.Core.Bool.{false≢true}
 use Prim.Native.Nat.{ℕ}
 use Rattle.places.specs.declared.Place.the-variants.{At}
-use Rattle.handing.specs.Sent.{place-below, sends-text, sends-nowhere, unanswered-broken, unanswered-formed}
+use Rattle.sending.specs.Sent.{place-below, sends-text, sends-nowhere, unanswered-broken, unanswered-formed}
 use Rattle.sending.proofs.send_text.Statement.{statement}
 use Rattle.sending.proofs.send_text.Tie as tie
 

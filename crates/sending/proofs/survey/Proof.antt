@@ -12,7 +12,7 @@ use Rattle.unanswered.specs.Formed.{one-further}
 use Rattle.deeds.specs.Message.{messageOf}
 use Rattle.memory.specs.End.{waitingIn}
 use Rattle.rules.specs.Sending.{anyWaiting, countWaiting, naming, making}
-use Rattle.asking.specs.Asked.{restOf, rest-all, any-on-further, any-end, count-all, count-one, count-not, count-end}
+use Rattle.sending.specs.Asked.{restOf, rest-all, any-on-further, any-end, count-all, count-one, count-not, count-end}
 use Rattle.sending.specs.Survey.{not-surveyed, one-broken, surveyed}
 use Rattle.sending.proofs.survey.Statement.{statement}
 use Rattle.sending.proofs.survey.Tie as tie

@@ -11,7 +11,4 @@ opened-spec =
     (λ c κs. tt)
     (λ c κs. tt)
     (λ c κs. tt)
-    (λ c κs. tt)
-    (λ c κs. tt)
-    (λ c κs. tt)
-    (λ c. rw (c .no-number .ensures, c .before .before .before .before .before .number .ensures, c .before .before .before .before .before .before .byte4 .ensures, c .before .before .before .before .before .before .before .byte3 .ensures, c .before .before .before .before .before .before .before .before .byte2 .ensures, c .before .before .before .before .before .before .before .before .before .byte .ensures)))
+    (λ c. rw (c .no-number .ensures, c .before .before .before .before .before .number .ensures, c .before .before .before .before .before .before .opens .ensures)))

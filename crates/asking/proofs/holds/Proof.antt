@@ -1,9 +1,0 @@
--- `asking::holds` meets its contract.
-use borrow.Author.Needs.{needs}
-use Rattle.asking.specs.Deciding.{holds}
-use Rattle.asking.proofs.holds.Statement.{statement}
-use Rattle.asking.proofs.holds.Tie as tie
-
-pub holds-spec : {M : Type 1} → statement M
-unfolding holds
-holds-spec = tie.close (tie.spec (λ c. search needs) (λ c. search needs) (λ c. search needs) (λ c. search needs) (λ c. search needs) (λ c. search needs))
