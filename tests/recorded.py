@@ -101,20 +101,28 @@ def apply(table, line):
     return f'done at {at}'
 
 
+def numbers(record):
+    return [record['status'], record['handoff'], *divmod(record['first'], 256), *divmod(record['offer'], 256)]
+
+
 def show(record):
     if record is None:
         return ['000 ' * 6]
-    numbers = [record['status'], record['handoff'], *divmod(record['first'], 256), *divmod(record['offer'], 256)]
-    return [''.join(f'{n:03} ' for n in numbers)] + [f'|{record[name]:<{width}}|' for name, width in WIDTHS.items()] + ['zero']
+    return [''.join(f'{n:03} ' for n in numbers(record))] + [f'|{record[name]:<{width}}|' for name, width in WIDTHS.items()] + ['zero']
+
+
+def laid_out(record):
+    """the 768 bytes of a place"""
+    if record is None:
+        return bytes(768)
+    texts = ''.join(f'{record[name]:<{width}}' for name, width in WIDTHS.items())
+    return (bytes(numbers(record)) + texts.encode()).ljust(768, b'\0')
 
 
 def main():
     table = [None] * 5
-    for line in sys.stdin.read().splitlines():
-        print(apply(table, line))
-    for record in table:
-        print('\n'.join(show(record)))
-    print('well formed')
+    said = [apply(table, line) for line in sys.stdin.read().splitlines()] + ['well formed', '']
+    sys.stdout.buffer.write('\n'.join(said).encode() + b''.join(map(laid_out, table)))
 
 
 if __name__ == '__main__':

@@ -1,11 +1,14 @@
 -- One field 22 and what may follow it.
 use mathlib.Core.Path.{_≡_, refl, sym, ap, _∙_}
+use mathlib.Core.Logic.{_⊎_, inl, inr}
 use mathlib.Core.Bool.{true, false, cond}
 use mathlib.Core.List.{List, [], _∷_}
 use Prim.Native.Nat.{ℕ, _+_, _≤_, _<_}
 use native.Mathlib.Omega.{arith}
 use lib.ListN.{length}
-use lib.Dec.{eqb}
+use lib.Dec.{eqb, ltb}
+use borrow.Author.Tests.{ltb-true, ltb-false}
+use Rattle.scan.specs.Bools.{known}
 use Rattle.scan.specs.declared.Scan.{Scan}
 use Rattle.scan.specs.declared.Span.{Span}
 use Rattle.scan.specs.Grammar.{G, alt, none}
@@ -30,7 +33,7 @@ use Rattle.changes.specs.declared.Plan.{Plan}
 use Rattle.changes.specs.declared.Found22.{Found22}
 use Rattle.changes.specs.declared.FoundTail.{FoundTail}
 use Rattle.changes.specs.Changes.{inChanges, changes, inChanged, changed}
-use Rattle.changes.specs.Found.{planOf, noPlan, found22, nothing22, found22-same, foundTail, eitherFoundTail, foundTail-alt}
+use Rattle.changes.specs.Found.{planOf, noPlan, found22, nothing22, Past, found22-same, foundTail, eitherFoundTail, foundTail-alt}
 
 -- the part k of a plan
 abbrev partOf : ℕ → Plan → Span
@@ -105,13 +108,13 @@ module _ (key : List ℕ) (x next : G) (s : List ℕ) (r a : Scan) (pa : a ≡ s
       found22-same (alt (lit key ⨾ x) next) (lit key ⨾ x) s r (chosen 2 (lit key) (lit key ⨾ x) next (in-seq it) ga gb e (omega arith) s r (omega (arith, lit-passed key s r p b, l)))
 
   -- it is not, and a later one has gone as far
-  pub number-past : a .ok ≡ false → (o : Found22) → o ≡ found22 next s r → a .next ≤ o .end .next → o ≡ found22 (alt (lit key ⨾ x) next) s r
+  number-past : a .ok ≡ false → (o : Found22) → o ≡ found22 next s r → a .next ≤ o .end .next → o ≡ found22 (alt (lit key ⨾ x) next) s r
   unfolding found22
   number-past e o po h =
       po ∙ found22-same (alt (lit key ⨾ x) next) next s r (given-up (lit key) (lit key ⨾ x) next (in-seq it) s r (so a (scan (lit key) s r) false pa e) (omega (arith, ap (λ (q : Scan). q .next) pa, ap (λ (q : Found22). q .end .next) po)))
 
   -- it is not, and no later one has
-  pub number-stop : a .ok ≡ false → (o q : Found22) → o ≡ found22 next s r → o .end .next < a .next → q ≡ nothing22 a → q ≡ found22 (alt (lit key ⨾ x) next) s r
+  number-stop : a .ok ≡ false → (o q : Found22) → o ≡ found22 next s r → o .end .next < a .next → q ≡ nothing22 a → q ≡ found22 (alt (lit key ⨾ x) next) s r
   unfolding found22 nothing22 spanBy
   number-stop e o q po h pq =
       let k : Scan = scan (lit key) s r in
@@ -120,6 +123,14 @@ module _ (key : List ℕ) (x next : G) (s : List ℕ) (r a : Scan) (pa : a ≡ s
       let none-there : (m : ℕ) → spot m (lit key ⨾ x) s r ≡ none = λ m. rw (lit-names m key) (spot-stays m x s k f) in
       pq ∙ ap nothing22 pa ∙ sym (λ i. record { end = z i; plan = planOf (λ m. none-there (n.amended + m) i) })
       ∙ found22-same (alt (lit key ⨾ x) next) (lit key ⨾ x) s r (ahead (lit key ⨾ x) next s r (omega (arith, ap (λ (v : Scan). v .next) pa, ap (λ (v : Scan). v .next) z, ap (λ (v : Found22). v .end .next) po)))
+
+  -- it is not
+  pub number-missed : a .ok ≡ false → (o q : Found22) → o ≡ found22 next s r → Past a o q → q ≡ found22 (alt (lit key ⨾ x) next) s r
+  number-missed e o q po h = go (known (ltb (o .end .next) (a .next)))
+    where
+      go : (ltb (o .end .next) (a .next) ≡ true) ⊎ (ltb (o .end .next) (a .next) ≡ false) → q ≡ found22 (alt (lit key ⨾ x) next) s r
+      go (inl t) = let l = ltb-true (o .end .next) (a .next) t in number-stop e o q po l (h .1 l)
+      go (inr t) = let l = ltb-false (o .end .next) (a .next) t in h .0 l ∙ number-past e o po l
 
 abbrev pub key07 : List ℕ
 key07 = 48 ∷ 55 ∷ 47 ∷ []

@@ -4,7 +4,7 @@ use mathlib.Core.Logic.{_⊎_, inl, inr}
 use native.Mathlib.Omega.{arith}
 use mathlib.Core.Bool.{Bool, true, false, cond}
 use mathlib.Core.List.{List}
-use Prim.Native.Nat.{ℕ, _+_}
+use Prim.Native.Nat.{ℕ, _+_, _≤_, _<_}
 use Rattle.scan.specs.declared.Scan.{Scan}
 use Rattle.scan.specs.declared.Span.{Span}
 use Rattle.scan.specs.Grammar.{G, eps, alt, none}
@@ -61,6 +61,10 @@ found22-same a b s r p = sym (λ i. record { end = p .0 i; plan = planOf (λ k. 
 
 unfoldable pub nothing22 : Scan → Found22
 nothing22 r = record { end = r; plan = noPlan }
+
+-- a number is there as far as a only: the later ones, unless they are behind
+abbrev pub Past : Scan → Found22 → Found22 → Type 0
+Past a later q = (a .next ≤ later .end .next → q ≡ later) × (later .end .next < a .next → q ≡ nothing22 a)
 
 -- where the scan before is not whole, nothing is found
 pub found22-stays : (g : G) (s : List ℕ) (r : Scan) → r .ok ≡ false → nothing22 r ≡ found22 g s r

@@ -1,9 +1,11 @@
 // What may stand in a CHG after field 16: its own field 18 or none, then one or more fields 22 in ascending order.
 ghost use mathlib.Core.Path.{_≡_};
-ghost use Rattle.scan.specs.Texts.{_⨾_, byte, opt};
+ghost use mathlib.Core.List.{[], _∷_};
+ghost use Rattle.scan.specs.Scanner.{scan as scanG};
+ghost use Rattle.scan.specs.Texts.{_⨾_, byte, lit, opt};
 ghost use Rattle.fields.specs.Fields.{nothing18, three18, four18, _─_};
 ghost use Rattle.changes.specs.Changes.{from18 as from18G, from16 as from16G, from15 as from15G, from13 as from13G, from10 as from10G, from09 as from09G, from08 as from08G, changes as changesG, changed as changedG};
-ghost use Rattle.changes.specs.Found.{noPlan, found22, nothing22, foundTail, eitherFoundTail};
+ghost use Rattle.changes.specs.Found.{noPlan, found22, nothing22, Past, foundTail, eitherFoundTail};
 use scan::Scan;
 use scan::Span;
 
@@ -85,11 +87,31 @@ fn nothing(r: Scan) -> Found22
 // The numbers differ in their two digits: once a number is there, no other field 22 can be, and where it is not, the
 // scan of the later numbers is taken unless it is behind.
 
+// A number of two digits and the slash behind it.
+fn key(s: &[u8], r: Scan, a: u8, b: u8) -> Scan
+    ensures { λ q. ⌜ q ≡ scanG (lit (a ∷ b ∷ 47 ∷ [])) (now (s .entry)) r ⌝ }
+{
+    let x = scan::byte(s, r, a);
+    let y = scan::byte(s, x, b);
+    scan::byte(s, y, b'/')
+}
+
+// The later numbers, where one is there as far as a only.
+fn past(a: Scan, later: Found22) -> Found22
+    ensures { λ q. ⌜ Past a later q ⌝ }
+{
+    let e = later.end;
+    if a.next <= e.next {
+        return later;
+    }
+    nothing(a)
+}
+
 // Fields 22 from number 18 on.
 fn from18(s: &[u8], r: Scan) -> Found22
     ensures { λ q. ⌜ q ≡ found22 from18G (now (s .entry)) r ⌝ }
 {
-    let a = scan::lit(s, r, b"18/");
+    let a = key(s, r, b'1', b'8');
     let f = fields::field18(s, a);
     let e = f.end;
     let end = e;
@@ -116,14 +138,9 @@ fn after16(s: &[u8], r: Scan) -> Found22
 fn from16(s: &[u8], r: Scan) -> Found22
     ensures { λ q. ⌜ q ≡ found22 from16G (now (s .entry)) r ⌝ }
 {
-    let a = scan::lit(s, r, b"16/");
+    let a = key(s, r, b'1', b'6');
     if !a.ok {
-        let o = from18(s, r);
-        let e = o.end;
-        if a.next <= e.next {
-            return o;
-        }
-        return nothing(a);
+        return past(a, from18(s, r));
     }
     let f = plan_fields::field16(s, a);
     let e = f.end;
@@ -156,14 +173,9 @@ fn after15(s: &[u8], r: Scan) -> Found22
 fn from15(s: &[u8], r: Scan) -> Found22
     ensures { λ q. ⌜ q ≡ found22 from15G (now (s .entry)) r ⌝ }
 {
-    let a = scan::lit(s, r, b"15/");
+    let a = key(s, r, b'1', b'5');
     if !a.ok {
-        let o = from16(s, r);
-        let e = o.end;
-        if a.next <= e.next {
-            return o;
-        }
-        return nothing(a);
+        return past(a, from16(s, r));
     }
     let f = plan_fields::field15(s, a);
     let e = f.end;
@@ -194,14 +206,9 @@ fn after13(s: &[u8], r: Scan) -> Found22
 fn from13(s: &[u8], r: Scan) -> Found22
     ensures { λ q. ⌜ q ≡ found22 from13G (now (s .entry)) r ⌝ }
 {
-    let a = scan::lit(s, r, b"13/");
+    let a = key(s, r, b'1', b'3');
     if !a.ok {
-        let o = from15(s, r);
-        let e = o.end;
-        if a.next <= e.next {
-            return o;
-        }
-        return nothing(a);
+        return past(a, from15(s, r));
     }
     let f = plan_fields::field13(s, a);
     let e = f.end;
@@ -230,14 +237,9 @@ fn after10(s: &[u8], r: Scan) -> Found22
 fn from10(s: &[u8], r: Scan) -> Found22
     ensures { λ q. ⌜ q ≡ found22 from10G (now (s .entry)) r ⌝ }
 {
-    let a = scan::lit(s, r, b"10/");
+    let a = key(s, r, b'1', b'0');
     if !a.ok {
-        let o = from13(s, r);
-        let e = o.end;
-        if a.next <= e.next {
-            return o;
-        }
-        return nothing(a);
+        return past(a, from13(s, r));
     }
     let f = plan_fields::field10(s, a);
     let e = f.end;
@@ -266,14 +268,9 @@ fn after09(s: &[u8], r: Scan) -> Found22
 fn from09(s: &[u8], r: Scan) -> Found22
     ensures { λ q. ⌜ q ≡ found22 from09G (now (s .entry)) r ⌝ }
 {
-    let a = scan::lit(s, r, b"09/");
+    let a = key(s, r, b'0', b'9');
     if !a.ok {
-        let o = from10(s, r);
-        let e = o.end;
-        if a.next <= e.next {
-            return o;
-        }
-        return nothing(a);
+        return past(a, from10(s, r));
     }
     let f = plan_fields::field09(s, a);
     let e = f.end;
@@ -304,14 +301,9 @@ fn after08(s: &[u8], r: Scan) -> Found22
 fn from08(s: &[u8], r: Scan) -> Found22
     ensures { λ q. ⌜ q ≡ found22 from08G (now (s .entry)) r ⌝ }
 {
-    let a = scan::lit(s, r, b"08/");
+    let a = key(s, r, b'0', b'8');
     if !a.ok {
-        let o = from09(s, r);
-        let e = o.end;
-        if a.next <= e.next {
-            return o;
-        }
-        return nothing(a);
+        return past(a, from09(s, r));
     }
     let f = plan_fields::field08(s, a);
     let e = f.end;
@@ -332,14 +324,9 @@ fn changes(s: &[u8], r: Scan) -> Found22
     if !r.ok {
         return nothing(r);
     }
-    let a = scan::lit(s, r, b"07/");
+    let a = key(s, r, b'0', b'7');
     if !a.ok {
-        let o = from08(s, r);
-        let e = o.end;
-        if a.next <= e.next {
-            return o;
-        }
-        return nothing(a);
+        return past(a, from08(s, r));
     }
     let f = plan_fields::field07(s, a);
     let end = f.end;

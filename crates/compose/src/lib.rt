@@ -15,12 +15,12 @@ fn add_own(text: &mut [u8], p: Pen, d: &[u8], o: Plan, e: Estimate) -> Pen
     ensures { λ r. ⌜ Adds (now (d .entry)) (now (text .entry)) p (ownBlocks (now (d .entry)) o e) (ownSpans o e) (now (text .exit)) r ⌝ }
 {
     let lead: &[u8] = b"-";
-    let p1 = field_texts::add_07(text, p, d, lead, o.aircraft, o.code);
-    let p2 = field_texts::add_pair(text, p1, d, lead, o.rules, o.flight);
-    let p3 = field_texts::add_09(text, p2, d, lead, o.count, o.model, o.wake);
-    let p4 = field_texts::add_10(text, p3, d, lead, o.equipment, o.surveillance);
-    let p5 = field_texts::add_pair(text, p4, d, lead, o.departure, o.time);
-    let p6 = field_texts::add_14(
+    let p1 = pen::field_texts::add_07(text, p, d, lead, o.aircraft, o.code);
+    let p2 = pen::field_texts::add_pair(text, p1, d, lead, o.rules, o.flight);
+    let p3 = pen::field_texts::add_09(text, p2, d, lead, o.count, o.model, o.wake);
+    let p4 = pen::field_texts::add_10(text, p3, d, lead, o.equipment, o.surveillance);
+    let p5 = pen::field_texts::add_pair(text, p4, d, lead, o.departure, o.time);
+    let p6 = pen::field_texts::add_14(
         text,
         p5,
         d,
@@ -31,8 +31,8 @@ fn add_own(text: &mut [u8], p: Pen, d: &[u8], o: Plan, e: Estimate) -> Pen
         e.second,
         e.sense,
     );
-    let p7 = field_texts::add_15(text, p6, d, lead, o.speed, o.level, o.route);
-    let p8 = field_texts::add_16(
+    let p7 = pen::field_texts::add_15(text, p6, d, lead, o.speed, o.level, o.route);
+    let p8 = pen::field_texts::add_16(
         text,
         p7,
         d,
@@ -42,20 +42,20 @@ fn add_own(text: &mut [u8], p: Pen, d: &[u8], o: Plan, e: Estimate) -> Pen
         o.alternate,
         o.alternate2,
     );
-    field_texts::add_18(text, p8, d, lead, o.indicator, o.other)
+    pen::field_texts::add_18(text, p8, d, lead, o.indicator, o.other)
 }
 
 // The fields within field 22, in ascending order.
 fn add_changes(text: &mut [u8], p: Pen, d: &[u8], o: Plan) -> Pen
     ensures { λ r. ⌜ Adds (now (d .entry)) (now (text .entry)) p (changeBlocks (now (d .entry)) o) (changeSpans o) (now (text .exit)) r ⌝ }
 {
-    let p1 = field_texts::add_07(text, p, d, b"-07/", o.aircraft, o.code);
-    let p2 = field_texts::add_pair(text, p1, d, b"-08/", o.rules, o.flight);
-    let p3 = field_texts::add_09(text, p2, d, b"-09/", o.count, o.model, o.wake);
-    let p4 = field_texts::add_10(text, p3, d, b"-10/", o.equipment, o.surveillance);
-    let p5 = field_texts::add_pair(text, p4, d, b"-13/", o.departure, o.time);
-    let p6 = field_texts::add_15(text, p5, d, b"-15/", o.speed, o.level, o.route);
-    let p7 = field_texts::add_16(
+    let p1 = pen::field_texts::add_07(text, p, d, b"-07/", o.aircraft, o.code);
+    let p2 = pen::field_texts::add_pair(text, p1, d, b"-08/", o.rules, o.flight);
+    let p3 = pen::field_texts::add_09(text, p2, d, b"-09/", o.count, o.model, o.wake);
+    let p4 = pen::field_texts::add_10(text, p3, d, b"-10/", o.equipment, o.surveillance);
+    let p5 = pen::field_texts::add_pair(text, p4, d, b"-13/", o.departure, o.time);
+    let p6 = pen::field_texts::add_15(text, p5, d, b"-15/", o.speed, o.level, o.route);
+    let p7 = pen::field_texts::add_16(
         text,
         p6,
         d,
@@ -65,7 +65,7 @@ fn add_changes(text: &mut [u8], p: Pen, d: &[u8], o: Plan) -> Pen
         o.alternate,
         o.alternate2,
     );
-    field_texts::add_18(text, p7, d, b"-18/", o.indicator, o.other)
+    pen::field_texts::add_18(text, p7, d, b"-18/", o.indicator, o.other)
 }
 
 // "(" and the letters of the type; of no type there is a text that is not read.
@@ -99,7 +99,7 @@ fn add_rest(text: &mut [u8], p: Pen, d: &[u8], q: Parts) -> Pen
     ensures { λ r. ⌜ Adds (now (d .entry)) (now (text .entry)) p (restBlocks (now (d .entry)) q) (restSpans q) (now (text .exit)) r ⌝ }
 {
     let r = q.reference;
-    let p1 = field_texts::add_reference(text, p, d, r.sender, r.receiver, r.digits);
+    let p1 = pen::field_texts::add_reference(text, p, d, r.sender, r.receiver, r.digits);
     let p2 = add_own(text, p1, d, q.own, q.estimate);
     let p3 = add_changes(text, p2, d, q.changes);
     let p4 = pen::add_led(text, p3, d, b"-", q.sector);

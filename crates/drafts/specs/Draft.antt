@@ -11,7 +11,7 @@ use Rattle.message.specs.declared.Record.{Record}
 use Rattle.message.specs.declared.Verdict.the-variants.{Read}
 use Rattle.reader.specs.Reading.{Judged}
 use Rattle.pen.specs.Listed.{spanOf, Inside}
-use Rattle.writing.specs.Writing.{Content, contentOf}
+use Rattle.writer.specs.Writing.{Content, contentOf}
 use Rattle.drafts.specs.declared.Drafting.{Drafting}
 use Rattle.drafts.specs.declared.Drafting.the-variants.{Written, BreaksRule}
 

@@ -13,7 +13,7 @@ use Rattle.message.specs.declared.Record.{Record}
 use Rattle.pen.specs.declared.Pen.{Pen}
 use Rattle.compose.specs.Composed.{sizes}
 use Rattle.pen.specs.Laying.{Adds, start, opening, blocks, spans, restBlocks, restSpans}
-use Rattle.writing.specs.Comparing.{Back}
+use Rattle.writer.specs.Comparing.{Back}
 use Rattle.writer.specs.Written.{breaks-laid, breaks-back, text-back, laid-fits, laid-size}
 use Rattle.drafts.specs.declared.Drafting.the-variants.{Written, BreaksRule}
 use Rattle.drafts.specs.Draft.{digits, figuresAs, Draws}

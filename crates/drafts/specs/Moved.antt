@@ -22,7 +22,7 @@ use Rattle.reader.specs.Reading.{cut}
 use Rattle.pen.specs.declared.Pen.{Pen}
 use Rattle.pen.specs.Listed.{numberParts, planParts, restParts, spanOf, Inside}
 use Rattle.pen.specs.Laying.{restBlocks, restSpans, blocks, spans, join, AllInside, Stands, Adds}
-use Rattle.writing.specs.Writing.{contentOf, Writes}
+use Rattle.writer.specs.Writing.{contentOf, Writes}
 use Rattle.writer.specs.Written.{one-text}
 use Rattle.drafts.specs.Draft.{digits, ofNumber, figuresAs, numbered, Drafted}
 

@@ -65,6 +65,12 @@ pub record Estimated (t : Texts) (field14 : List ℕ) : Type 0 where
   pub key : Named t
   pub estimate : Derives in14 field14
 
+-- the second text of a field is not there without the first
+pub record Paired (t : Texts) : Type 0 where
+  pub code : t .aircraft ≡ [] → t .code ≡ []
+  pub time : t .departure ≡ [] → t .time ≡ []
+  pub rest16 : t .destination ≡ [] → t .rest16 ≡ []
+
 -- the types that name a flight
 unfoldable pub namesFlight : Kind → Bool
 namesFlight None = false
@@ -216,3 +222,33 @@ module _ (w : List ℕ) (r : Record) (j : Judged w Read r) where
   pub est-said : r .kind ≡ Est → Estimated (textsOf w (r .parts .own)) (field14Of w (r .parts .estimate))
   unfolding namesFlight typeOf kept strange covers among occurs names est
   est-said e = record { key = key-said w r j Est e refl; estimate = estimated w r j Est e same }
+
+  -- EVERY TYPE: one that names a flight has all three first texts, another has no text of these fields
+  pub own-paired : Paired (textsOf w (r .parts .own))
+  unfolding namesFlight typeOf strange covers among occurs names rla lam lrm
+  own-paired = go (r .kind) refl
+    where
+      named : (k : Kind) → r .kind ≡ k → namesFlight k ≡ true → Paired (textsOf w (r .parts .own))
+      named k e h =
+          let n = key-said w r j k e h in
+          record {
+            code = λ z. absurd (omega (arith, n .aircraft .1, ap length z));
+            time = λ z. absurd (omega (arith, n .departure .1, ap length z));
+            rest16 = λ z. absurd (omega (arith, n .destination .1, ap length z));
+          }
+
+      bare : (k : Kind) → r .kind ≡ k → occurs n.code (typeOf k) ≡ false → occurs n.time (typeOf k) ≡ false → strange restParts (typeOf k) ≡ true → Paired (textsOf w (r .parts .own))
+      bare k e c t o = record { code = λ _. no-bytes w r j k e n.code c; time = λ _. no-bytes w r j k e n.time t; rest16 = λ _. no-rest16 w r j k e o }
+
+      go : (k : Kind) → r .kind ≡ k → Paired (textsOf w (r .parts .own))
+      go None e = bare None e refl refl refl
+      go Fpl e = named Fpl e refl
+      go Cpl e = named Cpl e refl
+      go Est e = named Est e refl
+      go Chg e = named Chg e refl
+      go Cnl e = named Cnl e refl
+      go Rti e = named Rti e refl
+      go Rta e = named Rta e refl
+      go Rla e = bare Rla e refl refl refl
+      go Lam e = bare Lam e refl refl refl
+      go Lrm e = bare Lrm e refl refl refl

@@ -29,7 +29,7 @@ pub fn text_08(out: &mut [u8], w: &[u8], p: Plan) -> usize
     ensures { λ r. ⌜ Starts (textsOf (now (w .entry)) p .field08) (now (out .entry)) (now (out .exit)) r ⌝ }
 {
     let q = Pen { at: 0, ok: true };
-    let r = field_texts::add_pair(out, q, w, b"", p.rules, p.flight);
+    let r = pen::field_texts::add_pair(out, q, w, b"", p.rules, p.flight);
     r.at
 }
 
@@ -38,7 +38,7 @@ pub fn text_09(out: &mut [u8], w: &[u8], p: Plan) -> usize
     ensures { λ r. ⌜ Starts (textsOf (now (w .entry)) p .field09) (now (out .entry)) (now (out .exit)) r ⌝ }
 {
     let q = Pen { at: 0, ok: true };
-    let r = field_texts::add_09(out, q, w, b"", p.count, p.model, p.wake);
+    let r = pen::field_texts::add_09(out, q, w, b"", p.count, p.model, p.wake);
     r.at
 }
 
@@ -47,7 +47,7 @@ pub fn text_10(out: &mut [u8], w: &[u8], p: Plan) -> usize
     ensures { λ r. ⌜ Starts (textsOf (now (w .entry)) p .field10) (now (out .entry)) (now (out .exit)) r ⌝ }
 {
     let q = Pen { at: 0, ok: true };
-    let r = field_texts::add_10(out, q, w, b"", p.equipment, p.surveillance);
+    let r = pen::field_texts::add_10(out, q, w, b"", p.equipment, p.surveillance);
     r.at
 }
 
@@ -56,7 +56,7 @@ pub fn text_14(out: &mut [u8], w: &[u8], e: Estimate) -> usize
     ensures { λ r. ⌜ Starts (field14Of (now (w .entry)) e) (now (out .entry)) (now (out .exit)) r ⌝ }
 {
     let q = Pen { at: 0, ok: true };
-    let r = field_texts::add_14(
+    let r = pen::field_texts::add_14(
         out,
         q,
         w,
@@ -75,7 +75,7 @@ pub fn text_15(out: &mut [u8], w: &[u8], p: Plan) -> usize
     ensures { λ r. ⌜ Starts (textsOf (now (w .entry)) p .field15) (now (out .entry)) (now (out .exit)) r ⌝ }
 {
     let q = Pen { at: 0, ok: true };
-    let r = field_texts::add_15(out, q, w, b"", p.speed, p.level, p.route);
+    let r = pen::field_texts::add_15(out, q, w, b"", p.speed, p.level, p.route);
     r.at
 }
 
@@ -86,7 +86,7 @@ pub fn rest_16(out: &mut [u8], w: &[u8], p: Plan) -> usize
 {
     let q = Pen { at: 0, ok: true };
     let q1 = pen::add_led(out, q, w, b"", p.elapsed);
-    let r = field_texts::add_alternates(out, q1, w, p.alternate, p.alternate2);
+    let r = pen::field_texts::add_alternates(out, q1, w, p.alternate, p.alternate2);
     r.at
 }
 
@@ -95,6 +95,6 @@ pub fn text_18(out: &mut [u8], w: &[u8], p: Plan) -> usize
     ensures { λ r. ⌜ Starts (textsOf (now (w .entry)) p .field18) (now (out .entry)) (now (out .exit)) r ⌝ }
 {
     let q = Pen { at: 0, ok: true };
-    let r = field_texts::add_18(out, q, w, b"", p.indicator, p.other);
+    let r = pen::field_texts::add_18(out, q, w, b"", p.indicator, p.other);
     r.at
 }

@@ -9,7 +9,6 @@ ghost use Rattle.scan.specs.Texts.{opt};
 ghost use Rattle.fields.specs.Fields.{timed, in08, in09, in10, in14, in15, rest16, in18};
 ghost use Rattle.flights.specs.Stretches.{passed};
 ghost use Rattle.flights.specs.Flight.{flightOf, WellFormed};
-ghost use Rattle.flights.specs.Table.{places};
 ghost use Rattle.flights.specs.Checked.{Used, Texts, Filed, Active};
 use scan::Scan;
 

@@ -2,7 +2,7 @@
 ghost use mathlib.Core.Path.{_≡_};
 ghost use Prim.Native.Nat.{_+_, _*_, _<_};
 ghost use lib.ListN.{length};
-ghost use Rattle.flights.specs.Table.{places, place, hasKey, found, lowestFree, inUse};
+ghost use Rattle.flights.specs.Table.{hasKey, found, lowestFree, inUse};
 use places::Place;
 
 // Whether a used record has a key.

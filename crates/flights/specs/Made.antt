@@ -20,10 +20,6 @@ pub record Made (i : ℕ) (f : Flight) (t e : List ℕ) : Type 0 where
   pub fits : AllFit widths (textsOf f)
   pub within : i < places t
 
--- which leaves no choice
-pub made-one : {i : ℕ} {f : Flight} {t d e : List ℕ} → Made i f t d → Made i f t e → d ≡ e
-made-one m n = m .bytes ∙ sym (n .bytes)
-
 -- CHANGES OF A FLIGHT
 
 -- its text k is s: 0 aircraft, 1 code, 2 departure, 3 time, 4 destination, 5 field 08, 6 field 09, 7 field 10, 8 field 14,

@@ -125,15 +125,6 @@ trimmed-blanks (x ∷ s) = go (known (blank (x ∷ s))) (trimmed-blanks s)
 pub padded-back : (w : ℕ) (s : List ℕ) → length s ≡ w → padded w (trimmed s) ≡ s
 padded-back w s e = ap (λ (k : ℕ). trimmed s ++ replicate (k - length (trimmed s)) 32) (sym e) ∙ trimmed-blanks s
 
-trimmed-short : (s : List ℕ) → length (trimmed s) ≤ length s
-unfolding trimmed
-trimmed-short [] = omega arith
-trimmed-short (x ∷ s) = go (known (blank (x ∷ s))) (trimmed-short s)
-  where
-    go : (blank (x ∷ s) ≡ true) ⊎ (blank (x ∷ s) ≡ false) → length (trimmed s) ≤ length s → length (cond (blank (x ∷ s)) [] (x ∷ trimmed s)) ≤ length (x ∷ s)
-    go (inl e) r = rw e (omega arith)
-    go (inr e) r = rw e (omega arith)
-
 -- ENCODING AFTER DECODING, for any row, which may go on
 pub row-take : (ws : List ℕ) (b : List ℕ) → total ws ≤ length b → inRow ws (fromRow ws b) ≡ take (total ws) b
 row-take [] b h = refl

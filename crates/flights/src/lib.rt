@@ -6,9 +6,8 @@ ghost use mathlib.Core.List.{[], _∷_};
 ghost use Rattle.splice.specs.Splice.{splice};
 ghost use Rattle.places.specs.Bytes.{high, low};
 ghost use Rattle.flights.specs.Padding.{trimmed, padded};
-ghost use Rattle.flights.specs.Stretches.{passed};
 ghost use Rattle.flights.specs.Flight.{freeRecord};
-ghost use Rattle.flights.specs.Table.{places, place};
+ghost use Rattle.flights.specs.Table.{places};
 ghost use Rattle.flights.specs.Made.{blankRecord};
 
 // How long a text is without the blanks at its right. These are passed by sixteen as long as there are so many.

@@ -12,7 +12,6 @@ use Rattle.head.specs.declared.Standing.the-variants.{New, Old, Stale}
 use Rattle.answers.specs.Given.{AnswersFormed}
 use Rattle.deeds.specs.Message.{Message}
 use Rattle.memory.specs.End.{End, Memory}
-use Rattle.rules.specs.Replies.{number}
 use Rattle.rules.specs.Laws.{value-small}
 use Rattle.rules.specs.Receiving.{raised, hearFirst, hearAgain, hearOld, hearMessage}
 use Rattle.calls.specs.declared.Answer.the-variants as answers

@@ -5,7 +5,6 @@ ghost use Prim.Native.Nat.{_≤_};
 ghost use lib.ListN.{length};
 ghost use Rattle.head.specs.Head.{received as raisedTo};
 ghost use Rattle.answers.specs.Given.{forgotten};
-ghost use Rattle.deeds.specs.declared.Decision.the-variants.{Done};
 ghost use Rattle.rules.specs.Receiving.{given};
 ghost use Rattle.hearing.specs.Hearing.{Replied};
 use calls::Answer;

@@ -9,8 +9,8 @@ use Rattle.message.specs.declared.Record.{Record}
 use Rattle.message.specs.declared.Verdict.{Verdict}
 use Rattle.message.specs.declared.Verdict.the-variants.{Read, Refused}
 use Rattle.reader.specs.Reading.{Judged, answerOf}
-use Rattle.writing.specs.declared.Writing.{Writing}
-use Rattle.writing.specs.Writing as w
+use Rattle.writer.specs.declared.Writing.{Writing}
+use Rattle.writer.specs.Writing as w
 use Rattle.head.specs.declared.Head.{Head}
 use Rattle.unanswered.specs.Waiting.{UnansweredFormed}
 use Rattle.memory.specs.End.{Memory, Formed}
@@ -22,7 +22,7 @@ use Rattle.calls.specs.Calls.{refusalIn, lengthIn, Called}
 use Rattle.link.specs.Sends.{Sent}
 use Rattle.link.specs.SetUp.{SetsUp}
 use Rattle.packed.specs.Packed.{packedOf, recordIn}
-use Rattle.head_bytes.specs.Head.{headIn, headBytes}
+use Rattle.packed.specs.Head.{headIn, headBytes}
 
 -- THE CALLS ON AN END
 

@@ -12,9 +12,9 @@ use Rattle.message.specs.declared.Record.{Record}
 use Rattle.message.specs.declared.Verdict.{Verdict}
 use Rattle.message.specs.declared.Verdict.the-variants.{Read, Refused}
 use Rattle.reader.specs.Reading.{answerOf}
-use Rattle.writing.specs.declared.Writing.{Writing}
-use Rattle.writing.specs.declared.Writing.the-variants as writing
-use Rattle.writing.specs.Writing as w
+use Rattle.writer.specs.declared.Writing.{Writing}
+use Rattle.writer.specs.declared.Writing.the-variants as writing
+use Rattle.writer.specs.Writing as w
 use Rattle.head.specs.declared.Head.{Head}
 use Rattle.memory.specs.End.{End, Memory, endOf}
 use Rattle.unanswered.specs.Waiting.{isAnswer}
@@ -29,7 +29,7 @@ use Rattle.calls.specs.Calls.{refusalIn, lengthIn, Comes, Called}
 use Rattle.link.specs.Sends.{Sent}
 use Rattle.link.specs.SetUp.{SetsUp}
 use Rattle.packed.specs.Packed.{recordIn}
-use Rattle.head_bytes.specs.Head.{headIn}
+use Rattle.packed.specs.Head.{headIn}
 use Rattle.host.specs.Calls.{Ran, Receives, Sends, SetUp, Resent, packedBy, ReadInto, WroteFrom}
 
 -- what is equal unless it is not

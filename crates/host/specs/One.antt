@@ -10,8 +10,8 @@ use Rattle.message.specs.declared.Record.{Record}
 use Rattle.message.specs.declared.Verdict.{Verdict}
 use Rattle.reader.specs.Reading.{answerOf}
 use Rattle.reader.specs.Reader.{judged-one}
-use Rattle.writing.specs.declared.Writing.{Writing}
-use Rattle.writing.specs.Writing as w
+use Rattle.writer.specs.declared.Writing.{Writing}
+use Rattle.writer.specs.Writing as w
 use Rattle.writer.specs.Written.{wrote-one}
 use Rattle.head.specs.declared.Head.{Head}
 use Rattle.memory.specs.End.{Memory}
@@ -20,7 +20,7 @@ use Rattle.calls.specs.Calls.{refusalIn, lengthIn}
 use Rattle.calls.specs.One.{Left}
 use Rattle.link.specs.One as link
 use Rattle.packed.specs.Packed.{recordIn}
-use Rattle.head_bytes.specs.Head.{headIn, headBytes}
+use Rattle.packed.specs.Head.{headIn, headBytes}
 use Rattle.host.specs.Calls.{Ran, Receives, Sends, SetUp, Resent, Checked, packedBy, ReadInto, WroteFrom, WordsAt}
 use Rattle.host.specs.Kept.{of-size, both-sizes, same-number}
 

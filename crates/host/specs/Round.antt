@@ -9,9 +9,9 @@ use Rattle.message.specs.declared.Record.{Record}
 use Rattle.message.specs.declared.Verdict.{Verdict}
 use Rattle.message.specs.declared.Verdict.the-variants.{Read, Refused}
 use Rattle.reader.specs.Reading.{Judged, answerOf}
-use Rattle.writing.specs.declared.Writing.{Writing}
-use Rattle.writing.specs.Writing.{Wrote}
-use Rattle.writing.specs.Writing as w
+use Rattle.writer.specs.declared.Writing.{Writing}
+use Rattle.writer.specs.Writing.{Wrote}
+use Rattle.writer.specs.Writing as w
 use Rattle.writer.specs.Written.{read-then-written}
 use Rattle.packed.specs.Packed.{recordIn}
 use Rattle.packed.specs.Back.{packed-long}

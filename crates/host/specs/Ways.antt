@@ -11,8 +11,8 @@ use Rattle.message.specs.declared.Record.{Record}
 use Rattle.message.specs.declared.Verdict.{Verdict}
 use Rattle.message.specs.declared.Verdict.the-variants.{Read, Refused}
 use Rattle.reader.specs.Reading.{Judged}
-use Rattle.writing.specs.declared.Writing.{Writing}
-use Rattle.writing.specs.Writing.{Wrote, answerOf}
+use Rattle.writer.specs.declared.Writing.{Writing}
+use Rattle.writer.specs.Writing.{Wrote, answerOf}
 use Rattle.head.specs.declared.Head.{Head}
 use Rattle.memory.specs.End.{Memory}
 use Rattle.rules.specs.Sending.{resend}
@@ -20,8 +20,8 @@ use Rattle.calls.specs.declared.Outcome.{Outcome}
 use Rattle.calls.specs.Calls.{refusalIn, lengthIn, Called}
 use Rattle.link.specs.Sends.{Sent}
 use Rattle.packed.specs.Packed.{packedOf, recordIn}
-use Rattle.head_bytes.specs.Head.{headIn, headBytes}
-use Rattle.head_bytes.specs.Written.{nothing-after}
+use Rattle.packed.specs.Head.{headIn, headBytes}
+use Rattle.packed.specs.Written.{nothing-after}
 use Rattle.host.specs.Calls.{Ran, Resent, Checked, ReadInto, WroteFrom, WordsAt}
 
 -- ON AN END

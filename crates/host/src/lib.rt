@@ -7,6 +7,8 @@ ghost use Rattle.memory.specs.End.{lent};
 ghost use Rattle.host.specs.Calls.{Receives, Sends, SetUp, Resent, Checked, LinkFormed, WaitingFormed, ReadInto, WroteFrom, WordsAt};
 use message::Verdict;
 
+mod numbers;
+
 // THE READER: the record of a text is written over 246 bytes.
 #[no_mangle]
 pub extern "C" fn pamiqsun_read(
@@ -53,7 +55,7 @@ pub extern "C" fn pamiqsun_write(
         *size = 0;
         return 12;
     }
-    let v = writer::write(unpacked::take(content), d, out);
+    let v = writer::write(packed::unpacked::take(content), d, out);
     *size = numbers::written_size(v);
     numbers::written_number(v)
 }
@@ -105,7 +107,7 @@ pub extern "C" fn pamiqsun_is_formed(
         return 12;
     }
     numbers::found(memory::is_sound(
-        head_bytes::head_in(head),
+        packed::head_bytes::head_in(head),
         sent,
         received,
         unanswered,
@@ -135,7 +137,7 @@ pub extern "C" fn pamiqsun_is_unanswered(head: &[u8], unanswered: &[u8]) -> usiz
     if head.len() != 12 {
         return 12;
     }
-    let h = head_bytes::head_in(head);
+    let h = packed::head_bytes::head_in(head);
     let ours = h.ours;
     let partners = h.partners;
     numbers::found(unanswered::is_unanswered(unanswered, &ours, &partners))
@@ -165,7 +167,7 @@ pub extern "C" fn pamiqsun_set_up(
         return 12;
     }
     let o = link::beginning::set_up(
-        head_bytes::head_in(head),
+        packed::head_bytes::head_in(head),
         ours,
         partners,
         sent,
@@ -173,7 +175,7 @@ pub extern "C" fn pamiqsun_set_up(
         unanswered,
         answers,
     );
-    head_bytes::put_head(head, o.head);
+    packed::head_bytes::put_head(head, o.head);
     let a = o.answer;
     let t = numbers::tell(a);
     t.number
@@ -203,8 +205,8 @@ pub extern "C" fn pamiqsun_send(
         return 12;
     }
     let o = link::dispatch::send(
-        head_bytes::head_in(head),
-        unpacked::take(content),
+        packed::head_bytes::head_in(head),
+        packed::unpacked::take(content),
         d,
         sent,
         received,
@@ -212,7 +214,7 @@ pub extern "C" fn pamiqsun_send(
         answers,
         out,
     );
-    head_bytes::put_head(head, o.head);
+    packed::head_bytes::put_head(head, o.head);
     let a = o.answer;
     let t = numbers::tell(a);
     *size = t.size;
@@ -242,7 +244,7 @@ pub extern "C" fn pamiqsun_receive(
         return 12;
     }
     let o = link::receive(
-        head_bytes::head_in(head),
+        packed::head_bytes::head_in(head),
         text,
         sent,
         received,
@@ -250,7 +252,7 @@ pub extern "C" fn pamiqsun_receive(
         answers,
         out,
     );
-    head_bytes::put_head(head, o.head);
+    packed::head_bytes::put_head(head, o.head);
     let a = o.answer;
     let t = numbers::tell(a);
     *size = t.size;
@@ -278,7 +280,7 @@ pub extern "C" fn pamiqsun_resend(
         return 12;
     }
     let o = link::resend(
-        head_bytes::head_in(head),
+        packed::head_bytes::head_in(head),
         number,
         sent,
         received,

@@ -8,11 +8,11 @@ use native.Mathlib.Omega.{arith}
 use lib.Dec.{eqb}
 use lib.ListN.{length, take, drop}
 use lib.Seq.{take-take, take-nil, drop-nil}
-use Rattle.line_ends.proofs.Feeding.{take-most}
+use Rattle.lines.proofs.Feeding.{take-most}
 use Rattle.reader.specs.Reader.{verdict, judged-by-beginning}
 use Rattle.message.specs.declared.Verdict.{Verdict}
 use Rattle.message.specs.declared.Verdict.the-variants.{Read, Refused}
-use Rattle.line_ends.specs.Feeds.{feedless}
+use Rattle.lines.specs.Feeds.{feedless}
 use Rattle.lines.specs.Numbers.{decimal}
 use Rattle.lines.specs.Listing.{endedFrom, unfinishedFrom, labelled, refusedWord, saying, lineOf, linesFrom, ifRead, ifRefused, readOf, refusedOf}
 

@@ -1,3 +1,5 @@
+pub mod Feeds
+pub mod One
 pub mod Listing
 pub mod Numbers
 pub mod Telling

@@ -10,6 +10,8 @@ ghost use Rattle.lines.specs.Telling.{Tells};
 ghost use Rattle.lines.specs.Listing.{labelled, refusedWord, lineOf, ifRead};
 use message::Verdict;
 
+pub mod line_ends;
+
 fn digit(n: u64) -> u8
     requires { ⌜ n < 10 ⌝ }
     ensures { λ r. ⌜ r ≡ 48 + n ⌝ }

@@ -12,12 +12,12 @@ use borrow.Author.Tests.{leb-true, le-leb, eqb-true, eqb-false, ltb-false, le-lt
 use Rattle.reader.specs.Reader.{verdict, judged-by-beginning}
 use Rattle.list.specs.declared.Tally.{Tally}
 use Rattle.splice.specs.Splice.{Spliced}
-use Rattle.line_ends.specs.Feeds.{LineEnd, feedless}
+use Rattle.lines.specs.Feeds.{LineEnd, feedless}
 use Rattle.lines.specs.Telling.{Tells}
 use Rattle.lines.specs.Listing.{ended, unfinished, lineOf, linesFrom, ifRead, readOf, refusedOf, lastLine, texts, totals, brokeOff, listing, broken}
 use Rattle.list.specs.Progress.{mostLines, room, soundly, Holds, After}
 use Rattle.splice.specs.Splicing.{front, behind, same-bytes}
-use Rattle.line_ends.proofs.Feeding.{take-most}
+use Rattle.lines.proofs.Feeding.{take-most}
 use Rattle.lines.proofs.Lines.{ended-append, ended-part, ended-line, unfinished-append, unfinished-part, unfinished-line, lines-more, read-more, all-counted, at-most-one, line-by-beginning, same-line, same-verdict, kept-append}
 
 -- part was put behind the bytes that are held, as far as there is room

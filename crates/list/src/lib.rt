@@ -98,7 +98,7 @@ fn feed_lines(tally: Tally, line: &mut [u8; KEPT], piece: &[u8], out: &mut [u8])
                 written,
             };
         }
-        let end = taken + line_ends::line_end(&piece[taken..]);
+        let end = taken + lines::line_ends::line_end(&piece[taken..]);
         if end == piece.len() {
             held = hold(line, held, &piece[taken..end]);
             taken = end;

@@ -18,10 +18,6 @@ pub record Puts (k : ℕ) (ns d e : List ℕ) (next : ℕ) : Type 0 where
   pub place : next ≡ k + length ns
   pub long : length e ≡ length d
 
--- which leaves no choice
-pub puts-one : {k : ℕ} {ns d e f : List ℕ} {m n : ℕ} → Puts k ns d e m → Puts k ns d f n → (e ≡ f) × (m ≡ n)
-puts-one p q = (p .bytes ∙ sym (q .bytes), p .place ∙ sym (q .place))
-
 pub spliced : {k n : ℕ} {ns d e : List ℕ} → Puts k ns d e n → Spliced (2 * k) (bytesIn ns) d e (2 * n)
 spliced {k} {n} {ns} p = record { bytes = p .bytes; place = omega (arith, p .place, bytes-long ns) }
 

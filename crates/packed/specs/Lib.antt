@@ -3,3 +3,5 @@ pub mod Packed
 pub mod Back
 pub mod Laid
 pub mod Fits
+pub mod Head
+pub mod Written

@@ -18,6 +18,9 @@ use types::Estimate;
 use types::Number;
 use types::Parts;
 
+pub mod head_bytes;
+pub mod unpacked;
+
 fn kind_number(k: Kind) -> usize
     ensures { λ r. ⌜ r ≡ kindNumber k ⌝ }
 {
@@ -62,7 +65,7 @@ fn form_number(k: PointForm) -> usize
 }
 
 // Writes n as the k-th number, and answers the place behind it. So do the others, for several.
-pub fn put_one(out: &mut [u8], k: usize, n: usize) -> usize
+pub(crate) fn put_one(out: &mut [u8], k: usize, n: usize) -> usize
     requires { ⌜ 2 * k + 2 ≤ length (now out) ⌝ }
     ensures { λ r. ⌜ Puts k (n ∷ []) (now (out .entry)) (now (out .exit)) r ⌝ }
 {

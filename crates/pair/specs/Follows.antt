@@ -24,7 +24,7 @@ use Rattle.pair.specs.answering.Answered.{Answerable}
 use Rattle.pair.specs.exchange.Runs as run
 use Rattle.pair.specs.exchange.Runs.{Script, num, Mem}
 use Rattle.pair.specs.keeping.Memory.{formed-of, end-back}
-use Rattle.pair.specs.World.{Copy, Among, here, there, Side, count, latest, given, logged, copied, changed, sent, resent, answered}
+use Rattle.pair.specs.World.{Copy, Among, Side, count, latest, given, logged, copied, changed, sent, resent, answered}
 use Rattle.pair.specs.Texts.{Says}
 
 -- the messages that the texts say

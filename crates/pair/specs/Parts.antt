@@ -38,7 +38,7 @@ use Rattle.pair.specs.kinds.Kinds.{contentOf, answerKind}
 use Rattle.pair.specs.kinds.Views.{Learns, Hears}
 use Rattle.pair.specs.kinds.Ends.{viewOf, SoundEnd, waitsIn}
 use Rattle.pair.specs.exchange.Runs.{num}
-use Rattle.pair.specs.answering.Answered.{Answerable, Answered, answer-read, answer-short}
+use Rattle.pair.specs.answering.Answered.{Answerable, answer-read, answer-short}
 use Rattle.pair.specs.keeping.Applied.{applied-formed}
 use Rattle.pair.specs.keeping.Calls as k
 use Rattle.pair.specs.views.Waits.{waits-found, number-at}

@@ -15,7 +15,7 @@ use Rattle.message.specs.declared.Verdict.{Verdict}
 use Rattle.message.specs.declared.Verdict.the-variants.{Read, Refused}
 use Rattle.reader.specs.Reading.{Judged}
 use Rattle.reader.specs.Reader.{verdict}
-use Rattle.writing.specs.Writing.{Content}
+use Rattle.writer.specs.Writing.{Content}
 use Rattle.drafts.specs.Draft.{Drafted, numbered}
 use Rattle.head.specs.declared.Standing.{Standing}
 use Rattle.head.specs.declared.Standing.the-variants.{New, Old, Stale}

@@ -5,6 +5,8 @@ ghost use Rattle.reader.specs.Reading.{cut};
 ghost use Rattle.pen.specs.Laying.{Adds, ledBy, textNumber};
 use scan::Span;
 
+pub mod field_texts;
+
 // Where a text ends that is being laid out, and whether all of it fitted.
 pub struct Pen {
     pub at: usize,

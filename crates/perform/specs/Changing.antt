@@ -7,13 +7,16 @@ use lib.ListN.{length, take, set}
 use Rattle.splice.specs.Splice.{splice}
 use Rattle.splice.specs.Inside.{length-splice}
 use Rattle.places.specs.Bytes.{high, low}
-use Rattle.excerpt.specs.Excerpt.{Texts, Starts}
+use Rattle.excerpt.specs.Excerpt.{Starts}
+use Rattle.excerpt.specs.ByKind.{Paired}
 use Rattle.flights.specs.Padding.{padded, padded-length}
 use Rattle.flights.specs.Flight.{Status, Handoff, Flight, statusByte, handoffByte, widths, textsOf, nth, flightBy}
 use Rattle.flights.specs.Rows.{row-within}
 use Rattle.flights.specs.Table.{places}
-use Rattle.flights.specs.Made.{Made, withText, withStatus, withHandoff, withOffer, textAt, textWide, made-text, made-status, made-handoff, made-offer}
-use Rattle.deeds.specs.Deeds.{orHeld, withField}
+use Rattle.flights.specs.Made.{Made, blankFlight, withText, withStatus, withHandoff, withOffer, textAt, textWide, made-text, made-status, made-handoff, made-offer}
+use Rattle.flights.specs.Flight as f
+use Rattle.deeds.specs.Message.{Message}
+use Rattle.deeds.specs.Deeds.{orHeld, withField, made, amended}
 
 -- d became e: whatever table d was made from, and whatever flight then stood at place i, that flight was changed so
 pub record Changes (i : ℕ) (change : Flight → Flight) (d e : List ℕ) : Type 0 where
@@ -116,12 +119,39 @@ handoff-changes i v s d e q h p = record { size = byte-size i 1 (v ∷ []) d e h
 pub offer-changes : (i n : ℕ) (d e : List ℕ) → i < places d → e ≡ splice (i * 768 + 4) (high n ∷ low n ∷ []) d → Changes i (withOffer n) d e
 offer-changes i n d e h p = record { size = byte-size i 4 (high n ∷ low n ∷ []) d e h (omega arith) p; on = λ f t m. made-offer m n e p }
 
--- THE TEXTS OF A PLAN
+-- A NEW FLIGHT: where no text is held, each field that is there makes it the flight of the message
 
--- those that stand in the message as they are
-abbrev pub withNames : Texts → Flight → Flight
-withNames t f = withText 4 (t .destination) (withText 3 (t .time) (withText 2 (t .departure) (withText 1 (t .code) (withText 0 (t .aircraft) f))))
+or-none : (s : List ℕ) → orHeld s [] ≡ s
+unfolding orHeld
+or-none [] = refl
+or-none (x ∷ s) = refl
 
--- and those that are laid out
-abbrev pub withFields : Texts → Flight → Flight
-withFields t f = withText 11 (t .field18) (withText 10 (t .field15) (withText 9 (t .rest16) (withText 7 (t .field10) (withText 6 (t .field09) (withText 5 (t .field08) f)))))
+field-none : (s t : List ℕ) → (s ≡ [] → t ≡ []) → withField s t [] ≡ t
+unfolding withField
+field-none [] t h = sym (h refl)
+field-none (x ∷ s) t h = refl
+
+amended-blank : (s : Status) (m : Message) → Paired (m .own) → amended (m .own) (blankFlight s (m .number)) ≡ made s [] m
+amended-blank s m p =
+    let t = m .own in
+    λ i. record {
+      status = s;
+      handoff = f.none;
+      first = m .number;
+      offer = 0;
+      aircraft = or-none (t .aircraft) i;
+      code = field-none (t .aircraft) (t .code) (p .code) i;
+      departure = or-none (t .departure) i;
+      time = field-none (t .departure) (t .time) (p .time) i;
+      destination = or-none (t .destination) i;
+      field08 = or-none (t .field08) i;
+      field09 = or-none (t .field09) i;
+      field10 = or-none (t .field10) i;
+      field14 = [];
+      rest16 = field-none (t .destination) (t .rest16) (p .rest16) i;
+      field15 = or-none (t .field15) i;
+      field18 = or-none (t .field18) i;
+    }
+
+pub filed-anew : {i : ℕ} {t d e : List ℕ} (s : Status) (m : Message) → Paired (m .own) → Made i (blankFlight s (m .number)) t d → Changes i (amended (m .own)) d e → Made i (made s [] m) t e
+filed-anew {i} {t} {d} {e} s m p b a = subst (λ (f : Flight). Made i f t e) (amended-blank s m p) (a .on (blankFlight s (m .number)) t b)

@@ -4,7 +4,7 @@ ghost use Prim.Native.Nat.{_≤_, _<_};
 ghost use Rattle.reader.specs.Reading.{Judged};
 ghost use Rattle.message.specs.declared.Verdict.the-variants.{Read};
 ghost use Rattle.excerpt.specs.Excerpt.{field14Of, Fits14};
-ghost use Rattle.flights.specs.Flight.{offered, active};
+ghost use Rattle.flights.specs.Flight.{offered};
 ghost use Rattle.flights.specs.Table.{places, place, free as isFree};
 ghost use Rattle.flights.specs.Decoded.{readFlight, flightsIn, tableOf};
 ghost use Rattle.deeds.specs.Message.{messageOf};

@@ -2,21 +2,10 @@
 ghost use mathlib.Core.Path.{_≡_};
 ghost use Prim.Native.Nat.{_+_, _*_, _≤_, _<_};
 ghost use lib.ListN.{length};
-ghost use Rattle.reader.specs.Reading.{cut};
-ghost use Rattle.pen.specs.Listed.{Inside};
 ghost use Rattle.splice.specs.Splice.{splice};
 ghost use Rattle.flights.specs.Padding.{padded};
-ghost use Rattle.flights.specs.Table.{places, place};
+ghost use Rattle.flights.specs.Table.{places};
 ghost use Rattle.deeds.specs.Deeds.{withField};
-use scan::Span;
-
-// A part of the message as it stands.
-pub(crate) fn put_part(table: &mut [u8], i: usize, at: usize, width: usize, w: &[u8], q: Span)
-    requires { ⌜ (i < places (now table)) × (at + width ≤ 768) × Inside (now w) q × (length (cut (now w) q) ≤ width) ⌝ }
-    ensures { λ _. ⌜ now (table .exit) ≡ splice (i * 768 + at) (padded width (cut (now (w .entry)) q)) (now (table .entry)) ⌝ }
-{
-    flights::set_text(table, i, at, width, excerpt::text_in(w, q));
-}
 
 // A text where it is given.
 pub(crate) fn put_given(table: &mut [u8], i: usize, at: usize, width: usize, s: &[u8])

@@ -72,12 +72,6 @@ module _ {A : Type 0} where
   get-other (suc i) zero y (x ∷ l) n = refl
   get-other (suc i) (suc j) y (x ∷ l) n = get-other i j y l (λ e. n (ap suc e))
 
-  pub set-get : (i : ℕ) (l : Places A) → set i (get i l) l ≡ l
-  unfolding get set
-  set-get i [] = refl
-  set-get zero (x ∷ l) = refl
-  set-get (suc i) (x ∷ l) = ap (λ (m : Places A). x ∷ m) (set-get i l)
-
   pub set-set : (i : ℕ) (y z : Option A) (l : Places A) → set i y (set i z l) ≡ set i y l
   unfolding set
   set-set i y z [] = refl

@@ -1,6 +1,6 @@
 // Message numbers and the fields of a plan, each with its parts.
 ghost use mathlib.Core.Path.{_≡_};
-ghost use mathlib.Core.Bool.{not, true};
+ghost use mathlib.Core.Bool.{true};
 ghost use Prim.Native.Nat.{_≤_};
 ghost use Rattle.scan.specs.Scanner.{scan as scanG};
 ghost use Rattle.fields.specs.Fields.{rest16 as rest16G};

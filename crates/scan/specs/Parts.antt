@@ -29,18 +29,6 @@ reads-derives (alt a b) at w ps r = ⊎-elim (λ l. inl (reads-derives a at w ps
 reads-derives (part n g) at w ps r = r .0
 reads-derives (field ns g) at w ps r = reads-derives g at w ps r
 
-pub derives-reads : (g : G) (at : ℕ) (w : List ℕ) → Derives g w → (ps : List Part) × Reads g at w ps
-derives-reads eps at w d = ([], (d, refl))
-derives-reads (run c lo hi) at w d = ([], (d, refl))
-derives-reads (words k) at w d = ([], (d, refl))
-derives-reads (seq a b) at w d =
-    let x = derives-reads a at (d .0) (d .3) in
-    let y = derives-reads b (at + length (d .0)) (d .1) (d .4) in
-    (x .0 ++ y .0, (d .0, d .1, x .0, y .0, d .2, refl, x .1, y .1))
-derives-reads (alt a b) at w d = ⊎-elim (λ l. let x = derives-reads a at w l in (x .0, inl (x .1))) (λ l. let x = derives-reads b at w l in (x .0, inr (x .1))) d
-derives-reads (part n g) at w d = (placed n at (length w) ∷ [], (d, refl))
-derives-reads (field ns g) at w d = derives-reads g at w d
-
 -- No text is of both
 
 -- each byte is in its set, as far as there are sets

@@ -3,7 +3,6 @@ ghost use mathlib.Core.Path.{_≡_};
 ghost use mathlib.Core.Bool.{cond, false};
 ghost use Prim.Native.Nat.{_≤_, _<_};
 ghost use Rattle.scan.specs.Grammar.{isIn, all, none as noneOf, run as runG};
-ghost use lib.ListN.{length};
 ghost use Rattle.scan.specs.declared.Class.the-variants.{Word};
 ghost use Rattle.scan.specs.Laws.{Whole};
 ghost use Rattle.scan.specs.Scanner.{runAt, scan, longer as longerOf, leads as leadsOf, between16};

@@ -8,7 +8,7 @@ ghost use Rattle.reader.specs.Reading.{Judged};
 ghost use Rattle.flights.specs.Formed.{TableFormed};
 ghost use Rattle.flights.specs.Decoded.{flightsIn, tableOf};
 ghost use Rattle.head.specs.Sound.{HeadFormed};
-ghost use Rattle.unanswered.specs.Waiting.{place, UnansweredFormed};
+ghost use Rattle.unanswered.specs.Waiting.{UnansweredFormed};
 ghost use Rattle.deeds.specs.Message.{messageOf};
 ghost use Rattle.deeds.specs.Deeds.{deedOf};
 ghost use Rattle.deeds.specs.Applying.{decision};

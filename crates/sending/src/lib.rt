@@ -9,7 +9,7 @@ ghost use Rattle.reader.specs.Reading.{Judged};
 ghost use Rattle.flights.specs.Formed.{TableFormed};
 ghost use Rattle.head.specs.Sound.{HeadFormed};
 ghost use Rattle.places.specs.declared.Place.the-variants.{At};
-ghost use Rattle.unanswered.specs.Waiting.{place, UnansweredFormed};
+ghost use Rattle.unanswered.specs.Waiting.{UnansweredFormed};
 ghost use Rattle.deeds.specs.Message.{messageOf};
 ghost use Rattle.answers.specs.Given.{AnswersFormed};
 ghost use Rattle.memory.specs.End.{lent};

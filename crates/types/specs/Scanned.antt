@@ -7,6 +7,12 @@ use Rattle.scan.specs.Grammar.{G, none}
 use Rattle.scan.specs.Scanner.{scan, from, scanAt, spot}
 use Rattle.fields.specs.Names as n
 use Rattle.fields.specs.Fields.{_─_, g07, g08, g09, g10}
+use Rattle.fields.specs.declared.Found13.{Found13}
+use Rattle.fields.specs.declared.Found14.{Found14}
+use Rattle.fields.specs.declared.Found15.{Found15}
+use Rattle.fields.specs.declared.Found16.{Found16}
+use Rattle.fields.specs.declared.Found18.{Found18}
+use Rattle.changes.specs.declared.Plan.{Plan}
 use Rattle.changes.specs.Found.{planOf, amendedPlan}
 use Rattle.types.specs.declared.Number.{Number}
 use Rattle.types.specs.declared.Estimate.{Estimate}
@@ -47,3 +53,86 @@ frontOf s r = record { end = scan (g07 0 ─ g08 0 ─ g09 0 ─ g10 0) s r; pla
 
 unfoldable pub scannedBy : G → List ℕ → Scanned
 scannedBy g s = record { end = scanAt g s 0; parts = partsOf (λ k. spot k g s (from 0)) }
+
+-- WHAT THE PARTS OF A MESSAGE ARE PUT TOGETHER FROM
+
+abbrev pub estimateOf : Found14 → Estimate
+estimateOf x = record { point = x .point; over = x .over; crossing = x .crossing; second = x .second; sense = x .sense }
+
+abbrev pub namedBy : Span → Span → Span → Span → Span → Span → Span → Plan
+namedBy aircraft code departure time destination indicator other = record {
+  aircraft = aircraft;
+  code = code;
+  rules = none;
+  flight = none;
+  count = none;
+  model = none;
+  wake = none;
+  equipment = none;
+  surveillance = none;
+  departure = departure;
+  time = time;
+  speed = none;
+  level = none;
+  route = none;
+  destination = destination;
+  elapsed = none;
+  alternate = none;
+  alternate2 = none;
+  indicator = indicator;
+  other = other;
+}
+
+abbrev pub filedBy : Leading → Found13 → Found15 → Found16 → Found18 → Plan
+filedBy f d r a o = record {
+  aircraft = f .plan .aircraft;
+  code = f .plan .code;
+  rules = f .plan .rules;
+  flight = f .plan .flight;
+  count = f .plan .count;
+  model = f .plan .model;
+  wake = f .plan .wake;
+  equipment = f .plan .equipment;
+  surveillance = f .plan .surveillance;
+  departure = d .departure;
+  time = d .time;
+  speed = r .speed;
+  level = r .level;
+  route = r .route;
+  destination = a .destination;
+  elapsed = a .elapsed;
+  alternate = a .alternate;
+  alternate2 = a .alternate2;
+  indicator = o .indicator;
+  other = o .other;
+}
+
+abbrev pub currentBy : Leading → Span → Found15 → Span → Found18 → Plan
+currentBy f departure r destination o = record {
+  aircraft = f .plan .aircraft;
+  code = f .plan .code;
+  rules = f .plan .rules;
+  flight = f .plan .flight;
+  count = f .plan .count;
+  model = f .plan .model;
+  wake = f .plan .wake;
+  equipment = f .plan .equipment;
+  surveillance = f .plan .surveillance;
+  departure = departure;
+  time = f .plan .time;
+  speed = r .speed;
+  level = r .level;
+  route = r .route;
+  destination = destination;
+  elapsed = f .plan .elapsed;
+  alternate = f .plan .alternate;
+  alternate2 = f .plan .alternate2;
+  indicator = o .indicator;
+  other = o .other;
+}
+
+abbrev pub wholeBy : Scan → Heading → Plan → Estimate → Plan → Span → Span → Span → Scanned
+wholeBy end h own estimate changes sector track reason = record {
+  end = end;
+  parts = record { number = h .number; reference = h .reference; own = own; estimate = estimate; changes = changes; sector = sector; track = track; reason = reason };
+}

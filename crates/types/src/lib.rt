@@ -6,11 +6,17 @@ ghost use lib.ListN.{length};
 ghost use Rattle.scan.specs.Grammar.{none};
 ghost use Rattle.scan.specs.Texts.{lit};
 ghost use Rattle.scan.specs.Scanner.{scanAt};
+ghost use Rattle.changes.specs.Found.{noPlan};
 ghost use Rattle.types.specs.Messages.{opened as openedG, referring as referringG, fpl as fplG, cpl as cplG, est as estG, chg as chgG, cnl as cnlG, rti as rtiG, rta as rtaG, rla as rlaG, lam as lamG, lrm as lrmG, message as messageG};
-ghost use Rattle.types.specs.Scanned.{partsOf, noNumber, noEstimate, openedBy, frontOf, scannedBy};
+ghost use Rattle.types.specs.Scanned.{partsOf, noNumber, noEstimate, openedBy, frontOf, scannedBy, estimateOf, namedBy, filedBy, currentBy, wholeBy};
 ghost use Rattle.types.specs.Arms.{keysOf};
 ghost use Rattle.types.specs.Picking.{unknownOf, fplArm, otherArms, lettersOf};
 use changes::Plan;
+use fields::Found13;
+use fields::Found14;
+use fields::Found15;
+use fields::Found16;
+use fields::Found18;
 use scan::Scan;
 use scan::Span;
 
@@ -172,25 +178,68 @@ fn front(s: &[u8], r: Scan) -> Leading
     Leading { end, plan }
 }
 
-fn fpl(s: &[u8]) -> Scanned
-    ensures { λ q. ⌜ q ≡ scannedBy fplG (now (s .entry)) ⌝ }
+// ---- what the parts of a message are put together from
+
+// Where field 14 stands.
+fn estimated(x: Found14) -> Estimate
+    ensures { λ q. ⌜ q ≡ estimateOf x ⌝ }
 {
-    let h = opened(s, b'F', b'P', b'L');
-    let e = h.end;
-    let number = h.number;
-    let reference = h.reference;
-    let f = front(s, scan::byte(s, e, b'-'));
-    let e1 = f.end;
+    let point = x.point;
+    let over = x.over;
+    let crossing = x.crossing;
+    let second = x.second;
+    let sense = x.sense;
+    Estimate {
+        point,
+        over,
+        crossing,
+        second,
+        sense,
+    }
+}
+
+// The fields by which most messages name a flight.
+fn named(
+    aircraft: Span,
+    code: Span,
+    departure: Span,
+    time: Span,
+    destination: Span,
+    indicator: Span,
+    other: Span,
+) -> Plan
+    ensures { λ q. ⌜ q ≡ namedBy aircraft code departure time destination indicator other ⌝ }
+{
+    let n = scan::none();
+    Plan {
+        aircraft,
+        code,
+        rules: n,
+        flight: n,
+        count: n,
+        model: n,
+        wake: n,
+        equipment: n,
+        surveillance: n,
+        departure,
+        time,
+        speed: n,
+        level: n,
+        route: n,
+        destination,
+        elapsed: n,
+        alternate: n,
+        alternate2: n,
+        indicator,
+        other,
+    }
+}
+
+// The fields of an FPL.
+fn filed(f: Leading, d: Found13, r: Found15, a: Found16, o: Found18) -> Plan
+    ensures { λ q. ⌜ q ≡ filedBy f d r a o ⌝ }
+{
     let mut plan = f.plan;
-    let d = plan_fields::field13(s, scan::byte(s, e1, b'-'));
-    let e2 = d.end;
-    let r = plan_fields::field15(s, scan::byte(s, e2, b'-'));
-    let e3 = r.end;
-    let a = plan_fields::field16(s, scan::byte(s, e3, b'-'));
-    let e4 = a.end;
-    let o = fields::field18(s, scan::byte(s, e4, b'-'));
-    let e5 = o.end;
-    let end = scan::byte(s, e5, b')');
     let departure = d.departure;
     plan.departure = departure;
     let time = d.time;
@@ -213,19 +262,95 @@ fn fpl(s: &[u8]) -> Scanned
     plan.indicator = indicator;
     let other = o.other;
     plan.other = other;
+    plan
+}
+
+// Those of a CPL but for field 14.
+fn current(f: Leading, departure: Span, r: Found15, destination: Span, o: Found18) -> Plan
+    ensures { λ q. ⌜ q ≡ currentBy f departure r destination o ⌝ }
+{
+    let mut plan = f.plan;
+    plan.departure = departure;
+    let speed = r.speed;
+    plan.speed = speed;
+    let level = r.level;
+    plan.level = level;
+    let route = r.route;
+    plan.route = route;
+    plan.destination = destination;
+    let indicator = o.indicator;
+    plan.indicator = indicator;
+    let other = o.other;
+    plan.other = other;
+    plan
+}
+
+// A message, all of it.
+fn whole(
+    end: Scan,
+    h: Heading,
+    own: Plan,
+    estimate: Estimate,
+    changes: Plan,
+    sector: Span,
+    track: Span,
+    reason: Span,
+) -> Scanned
+    ensures { λ q. ⌜ q ≡ wholeBy end h own estimate changes sector track reason ⌝ }
+{
+    let number = h.number;
+    let reference = h.reference;
     Scanned {
         end,
         parts: Parts {
             number,
             reference,
-            own: plan,
-            estimate: no_estimate(),
-            changes: changes::no_plan(),
-            sector: scan::none(),
-            track: scan::none(),
-            reason: scan::none(),
+            own,
+            estimate,
+            changes,
+            sector,
+            track,
+            reason,
         },
     }
+}
+
+// One without fields 22 and without the digits of an LRM.
+fn plain(end: Scan, h: Heading, own: Plan, estimate: Estimate, sector: Span, track: Span) -> Scanned
+    ensures { λ q. ⌜ q ≡ wholeBy end h own estimate noPlan sector track none ⌝ }
+{
+    let n = scan::none();
+    whole(end, h, own, estimate, changes::no_plan(), sector, track, n)
+}
+
+// One that has fields 07 to 18 only, and no field 14.
+fn planned(end: Scan, h: Heading, own: Plan) -> Scanned
+    ensures { λ q. ⌜ q ≡ wholeBy end h own noEstimate noPlan none none none ⌝ }
+{
+    let n = scan::none();
+    plain(end, h, own, no_estimate(), n, n)
+}
+
+// ---- the ten types
+
+fn fpl(s: &[u8]) -> Scanned
+    ensures { λ q. ⌜ q ≡ scannedBy fplG (now (s .entry)) ⌝ }
+{
+    let h = opened(s, b'F', b'P', b'L');
+    let e = h.end;
+    let f = front(s, scan::byte(s, e, b'-'));
+    let e1 = f.end;
+    let d = plan_fields::field13(s, scan::byte(s, e1, b'-'));
+    let e2 = d.end;
+    let r = plan_fields::field15(s, scan::byte(s, e2, b'-'));
+    let e3 = r.end;
+    let a = plan_fields::field16(s, scan::byte(s, e3, b'-'));
+    let e4 = a.end;
+    let o = fields::field18(s, scan::byte(s, e4, b'-'));
+    let e5 = o.end;
+    let end = scan::byte(s, e5, b')');
+    let plan = filed(f, d, r, a, o);
+    planned(end, h, plan)
 }
 
 fn cpl(s: &[u8]) -> Scanned
@@ -233,11 +358,8 @@ fn cpl(s: &[u8]) -> Scanned
 {
     let h = opened(s, b'C', b'P', b'L');
     let e = h.end;
-    let number = h.number;
-    let reference = h.reference;
     let f = front(s, scan::byte(s, e, b'-'));
     let e1 = f.end;
-    let mut plan = f.plan;
     let e2 = scan::byte(s, e1, b'-');
     let e3 = scan::letters(s, e2, 4);
     let x = points::field14(s, scan::byte(s, e3, b'-'));
@@ -249,43 +371,11 @@ fn cpl(s: &[u8]) -> Scanned
     let o = fields::field18(s, scan::byte(s, e7, b'-'));
     let e8 = o.end;
     let end = scan::byte(s, e8, b')');
-    plan.departure = scan::between(e2, e3);
-    plan.destination = scan::between(e6, e7);
-    let speed = r.speed;
-    plan.speed = speed;
-    let level = r.level;
-    plan.level = level;
-    let route = r.route;
-    plan.route = route;
-    let indicator = o.indicator;
-    plan.indicator = indicator;
-    let other = o.other;
-    plan.other = other;
-    let point = x.point;
-    let over = x.over;
-    let crossing = x.crossing;
-    let second = x.second;
-    let sense = x.sense;
-    let estimate = Estimate {
-        point,
-        over,
-        crossing,
-        second,
-        sense,
-    };
-    Scanned {
-        end,
-        parts: Parts {
-            number,
-            reference,
-            own: plan,
-            estimate,
-            changes: changes::no_plan(),
-            sector: scan::none(),
-            track: scan::none(),
-            reason: scan::none(),
-        },
-    }
+    let departure = scan::between(e2, e3);
+    let destination = scan::between(e6, e7);
+    let plan = current(f, departure, r, destination, o);
+    let n = scan::none();
+    plain(end, h, plan, estimated(x), n, n)
 }
 
 fn est(s: &[u8]) -> Scanned
@@ -293,8 +383,6 @@ fn est(s: &[u8]) -> Scanned
 {
     let h = referring(s, b'E', b'S', b'T');
     let e = h.end;
-    let number = h.number;
-    let reference = h.reference;
     let i = plan_fields::field07(s, scan::byte(s, e, b'-'));
     let e1 = i.end;
     let e2 = scan::byte(s, e1, b'-');
@@ -304,38 +392,11 @@ fn est(s: &[u8]) -> Scanned
     let e5 = scan::byte(s, e4, b'-');
     let e6 = scan::letters(s, e5, 4);
     let end = scan::byte(s, e6, b')');
-    let mut plan = changes::no_plan();
-    plan.departure = scan::between(e2, e3);
-    plan.destination = scan::between(e5, e6);
-    let aircraft = i.aircraft;
-    plan.aircraft = aircraft;
-    let code = i.code;
-    plan.code = code;
-    let point = x.point;
-    let over = x.over;
-    let crossing = x.crossing;
-    let second = x.second;
-    let sense = x.sense;
-    let estimate = Estimate {
-        point,
-        over,
-        crossing,
-        second,
-        sense,
-    };
-    Scanned {
-        end,
-        parts: Parts {
-            number,
-            reference,
-            own: plan,
-            estimate,
-            changes: changes::no_plan(),
-            sector: scan::none(),
-            track: scan::none(),
-            reason: scan::none(),
-        },
-    }
+    let departure = scan::between(e2, e3);
+    let destination = scan::between(e5, e6);
+    let n = scan::none();
+    let plan = named(i.aircraft, i.code, departure, n, destination, n, n);
+    plain(end, h, plan, estimated(x), n, n)
 }
 
 fn chg(s: &[u8]) -> Scanned
@@ -343,8 +404,6 @@ fn chg(s: &[u8]) -> Scanned
 {
     let h = referring(s, b'C', b'H', b'G');
     let e = h.end;
-    let number = h.number;
-    let reference = h.reference;
     let e1 = scan::byte(s, e, b'-');
     let e2 = scan::alnums(s, e1, 2, 7);
     let d = plan_fields::field13o(s, scan::byte(s, e2, b'-'));
@@ -354,31 +413,19 @@ fn chg(s: &[u8]) -> Scanned
     let c = changes::changed(s, scan::byte(s, e5, b'-'));
     let e6 = c.end;
     let end = scan::byte(s, e6, b')');
-    let mut plan = changes::no_plan();
-    plan.aircraft = scan::between(e1, e2);
-    let departure = d.departure;
-    plan.departure = departure;
-    let time = d.time;
-    plan.time = time;
-    plan.destination = scan::between(e4, e5);
-    let indicator = c.indicator;
-    plan.indicator = indicator;
-    let other = c.other;
-    plan.other = other;
-    let changes = c.plan;
-    Scanned {
-        end,
-        parts: Parts {
-            number,
-            reference,
-            own: plan,
-            estimate: no_estimate(),
-            changes,
-            sector: scan::none(),
-            track: scan::none(),
-            reason: scan::none(),
-        },
-    }
+    let aircraft = scan::between(e1, e2);
+    let destination = scan::between(e4, e5);
+    let n = scan::none();
+    let plan = named(
+        aircraft,
+        n,
+        d.departure,
+        d.time,
+        destination,
+        c.indicator,
+        c.other,
+    );
+    whole(end, h, plan, no_estimate(), c.plan, n, n, n)
 }
 
 fn cnl(s: &[u8]) -> Scanned
@@ -386,8 +433,6 @@ fn cnl(s: &[u8]) -> Scanned
 {
     let h = referring(s, b'C', b'N', b'L');
     let e = h.end;
-    let number = h.number;
-    let reference = h.reference;
     let e1 = scan::byte(s, e, b'-');
     let e2 = scan::alnums(s, e1, 2, 7);
     let d = plan_fields::field13o(s, scan::byte(s, e2, b'-'));
@@ -397,30 +442,19 @@ fn cnl(s: &[u8]) -> Scanned
     let o = fields::field18(s, scan::byte(s, e5, b'-'));
     let e6 = o.end;
     let end = scan::byte(s, e6, b')');
-    let mut plan = changes::no_plan();
-    plan.aircraft = scan::between(e1, e2);
-    let departure = d.departure;
-    plan.departure = departure;
-    let time = d.time;
-    plan.time = time;
-    plan.destination = scan::between(e4, e5);
-    let indicator = o.indicator;
-    plan.indicator = indicator;
-    let other = o.other;
-    plan.other = other;
-    Scanned {
-        end,
-        parts: Parts {
-            number,
-            reference,
-            own: plan,
-            estimate: no_estimate(),
-            changes: changes::no_plan(),
-            sector: scan::none(),
-            track: scan::none(),
-            reason: scan::none(),
-        },
-    }
+    let aircraft = scan::between(e1, e2);
+    let destination = scan::between(e4, e5);
+    let n = scan::none();
+    let plan = named(
+        aircraft,
+        n,
+        d.departure,
+        d.time,
+        destination,
+        o.indicator,
+        o.other,
+    );
+    planned(end, h, plan)
 }
 
 fn rti(s: &[u8]) -> Scanned
@@ -428,8 +462,6 @@ fn rti(s: &[u8]) -> Scanned
 {
     let h = referring(s, b'R', b'T', b'I');
     let e = h.end;
-    let number = h.number;
-    let reference = h.reference;
     let i = plan_fields::field07(s, scan::byte(s, e, b'-'));
     let e1 = i.end;
     let e2 = scan::byte(s, e1, b'-');
@@ -441,28 +473,13 @@ fn rti(s: &[u8]) -> Scanned
     let e8 = scan::byte(s, e7, b'-');
     let e9 = words::words(s, e8, 60);
     let end = scan::byte(s, e9, b')');
-    let mut plan = changes::no_plan();
-    let aircraft = i.aircraft;
-    plan.aircraft = aircraft;
-    let code = i.code;
-    plan.code = code;
-    plan.departure = scan::between(e2, e3);
-    plan.destination = scan::between(e4, e5);
+    let departure = scan::between(e2, e3);
+    let destination = scan::between(e4, e5);
     let sector = scan::between(e6, e7);
     let track = scan::between(e8, e9);
-    Scanned {
-        end,
-        parts: Parts {
-            number,
-            reference,
-            own: plan,
-            estimate: no_estimate(),
-            changes: changes::no_plan(),
-            sector,
-            track,
-            reason: scan::none(),
-        },
-    }
+    let n = scan::none();
+    let plan = named(i.aircraft, i.code, departure, n, destination, n, n);
+    plain(end, h, plan, no_estimate(), sector, track)
 }
 
 fn rta(s: &[u8]) -> Scanned
@@ -470,8 +487,6 @@ fn rta(s: &[u8]) -> Scanned
 {
     let h = referring(s, b'R', b'T', b'A');
     let e = h.end;
-    let number = h.number;
-    let reference = h.reference;
     let e1 = scan::byte(s, e, b'-');
     let e2 = scan::alnums(s, e1, 2, 7);
     let e3 = scan::byte(s, e2, b'-');
@@ -481,24 +496,13 @@ fn rta(s: &[u8]) -> Scanned
     let e7 = scan::byte(s, e6, b'-');
     let e8 = words::words(s, e7, 20);
     let end = scan::byte(s, e8, b')');
-    let mut plan = changes::no_plan();
-    plan.aircraft = scan::between(e1, e2);
-    plan.departure = scan::between(e3, e4);
-    plan.destination = scan::between(e5, e6);
+    let aircraft = scan::between(e1, e2);
+    let departure = scan::between(e3, e4);
+    let destination = scan::between(e5, e6);
     let sector = scan::between(e7, e8);
-    Scanned {
-        end,
-        parts: Parts {
-            number,
-            reference,
-            own: plan,
-            estimate: no_estimate(),
-            changes: changes::no_plan(),
-            sector,
-            track: scan::none(),
-            reason: scan::none(),
-        },
-    }
+    let n = scan::none();
+    let plan = named(aircraft, n, departure, n, destination, n, n);
+    plain(end, h, plan, no_estimate(), sector, n)
 }
 
 fn rla(s: &[u8]) -> Scanned
@@ -506,25 +510,12 @@ fn rla(s: &[u8]) -> Scanned
 {
     let h = referring(s, b'R', b'L', b'A');
     let e = h.end;
-    let number = h.number;
-    let reference = h.reference;
     let e1 = scan::byte(s, e, b'-');
     let e2 = words::words(s, e1, 20);
     let end = scan::byte(s, e2, b')');
     let sector = scan::between(e1, e2);
-    Scanned {
-        end,
-        parts: Parts {
-            number,
-            reference,
-            own: changes::no_plan(),
-            estimate: no_estimate(),
-            changes: changes::no_plan(),
-            sector,
-            track: scan::none(),
-            reason: scan::none(),
-        },
-    }
+    let n = scan::none();
+    plain(end, h, changes::no_plan(), no_estimate(), sector, n)
 }
 
 fn lam(s: &[u8]) -> Scanned
@@ -532,22 +523,8 @@ fn lam(s: &[u8]) -> Scanned
 {
     let h = referring(s, b'L', b'A', b'M');
     let e = h.end;
-    let number = h.number;
-    let reference = h.reference;
     let end = scan::byte(s, e, b')');
-    Scanned {
-        end,
-        parts: Parts {
-            number,
-            reference,
-            own: changes::no_plan(),
-            estimate: no_estimate(),
-            changes: changes::no_plan(),
-            sector: scan::none(),
-            track: scan::none(),
-            reason: scan::none(),
-        },
-    }
+    planned(end, h, changes::no_plan())
 }
 
 fn lrm(s: &[u8]) -> Scanned
@@ -555,26 +532,14 @@ fn lrm(s: &[u8]) -> Scanned
 {
     let h = referring(s, b'L', b'R', b'M');
     let e = h.end;
-    let number = h.number;
-    let reference = h.reference;
     let e1 = scan::byte(s, e, b'-');
     let e2 = scan::lit(s, e1, b"RMK/");
     let e3 = scan::digits(s, e2, 2);
     let end = scan::byte(s, e3, b')');
     let reason = scan::between(e2, e3);
-    Scanned {
-        end,
-        parts: Parts {
-            number,
-            reference,
-            own: changes::no_plan(),
-            estimate: no_estimate(),
-            changes: changes::no_plan(),
-            sector: scan::none(),
-            track: scan::none(),
-            reason,
-        },
-    }
+    let n = scan::none();
+    let plan = changes::no_plan();
+    whole(end, h, plan, no_estimate(), plan, n, n, reason)
 }
 
 pub fn no_parts() -> Parts

@@ -19,7 +19,7 @@ use Rattle.reader.specs.Reader.{judged-one, words-within}
 use Rattle.places.specs.Bytes.{high, low, numberAt, high-of, low-of, two-bytes, each, stretch-is}
 use Rattle.unanswered.specs.declared.Shown.the-variants.{Broken, Empty, Message}
 use Rattle.unanswered.specs.Waiting.{Waiting, waiting, waitingBytes, waitingOf, isAnswer, Proper, WellFormed, free, Shows}
-use Rattle.unanswered.specs.Encoded.{waiting-back, bytes-back, proper-short}
+use Rattle.unanswered.specs.Encoded.{waiting-back, proper-short}
 
 -- THE TEXT
 
@@ -152,6 +152,3 @@ module _ (ours partners b : List ℕ) (w : WellFormed ours partners b) (u : free
 
   pub formed-proper : Proper ours partners (waitingOf b)
   formed-proper = subst (Proper ours partners) (sym (ap waitingOf (used-of .1) ∙ waiting-back (used-of .0))) (used-of .2)
-
-  pub formed-back : waitingBytes (waitingOf b) ≡ b
-  formed-back = bytes-back b (used-of .0) (used-of .1)

@@ -1,1 +1,4 @@
+pub mod Writing
+pub mod Writer
+pub mod Comparing
 pub mod Written

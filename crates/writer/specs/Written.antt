@@ -18,15 +18,15 @@ use Rattle.message.specs.declared.Record.{Record}
 use Rattle.message.specs.declared.Verdict.the-variants.{Read}
 use Rattle.reader.specs.Reading.{Judged}
 use Rattle.pen.specs.declared.Pen.{Pen}
-use Rattle.writing.specs.declared.Writing.{Writing}
-use Rattle.writing.specs.declared.Writing.the-variants.{Written, BreaksRule, NoRoom}
+use Rattle.writer.specs.declared.Writing.{Writing}
+use Rattle.writer.specs.declared.Writing.the-variants.{Written, BreaksRule, NoRoom}
 use Rattle.pen.specs.Listed.{spanOf, Inside}
-use Rattle.writing.specs.Writing.{contentOf, Writes, Wrote}
+use Rattle.writer.specs.Writing.{contentOf, Writes, Wrote}
 use Rattle.compose.specs.Recorded.{partNames, nameless, its-inside}
-use Rattle.writing.specs.Writer.{text-of, text-short, text-alike, alike-text}
+use Rattle.writer.specs.Writer.{text-of, text-short, text-alike, alike-text}
 use Rattle.pen.specs.Laying.{AllInside, Stands, Adds, start, opening, blocks, spans}
 use Rattle.scan.specs.Bools.{or-split, known, Decides}
-use Rattle.writing.specs.Comparing.{Back}
+use Rattle.writer.specs.Comparing.{Back}
 use Rattle.compose.specs.Composed.{composed, composed-is}
 
 -- the names in the order of the fields

@@ -1,11 +1,20 @@
 // Writes the text of a record: its parts are laid out in the order of their fields, and what the reader makes of that is
 // held against the record. So the rules are the reader's, and there is no second set of them.
 ghost use Rattle.scan.specs.Bools.{Decides};
-ghost use Rattle.writing.specs.Comparing.{Back};
-ghost use Rattle.writing.specs.Writing.{Wrote};
+ghost use Rattle.writer.specs.Comparing.{Back};
+ghost use Rattle.writer.specs.Writing.{Wrote};
 use message::Record;
 use message::Verdict;
-use writing::Writing;
+
+mod comparing;
+
+// What becomes of a record: its text, of this length, is in the buffer; or no text reads back as it; or its text is longer
+// than the buffer.
+pub enum Writing {
+    Written(usize),
+    BreaksRule,
+    NoRoom,
+}
 
 // Whether a text reads back as a record: then its parts are the record's, since they were laid out from these.
 pub fn reads_back(t: &[u8], r: Record) -> bool
@@ -15,7 +24,7 @@ pub fn reads_back(t: &[u8], r: Record) -> bool
     let its = q.record;
     let v = q.verdict;
     match v {
-        Verdict::Read => writing::alike(its, r),
+        Verdict::Read => crate::comparing::alike(its, r),
         Verdict::Refused(place, before) => false,
     }
 }

@@ -1,9 +1,8 @@
-use borrow.Author.Needs.{needs}
 use mathlib.Core.Path.{refl, _∙_}
 use borrow.Author.Tests.{not-true, not-false}
 use Rattle.changes.specs.Changes.{from08, inChanges, changes}
 use Rattle.changes.specs.Found.{found22-stays}
-use Rattle.changes.specs.Ascend.{number-there, number-past, number-stop, key07, with-07, named22}
+use Rattle.changes.specs.Ascend.{number-there, number-missed, key07, with-07, named22}
 use Rattle.changes.specs.Keys.{rest07, good-07, good-from08, apart-07}
 use Rattle.changes.proofs.changes.Statement.{statement}
 use Rattle.changes.proofs.changes.Tie as tie
@@ -15,12 +14,10 @@ changes-spec =
     (tie.spec
     (λ c κs. tt)
     (λ c. c .nothing .ensures ∙ found22-stays changes _ _ (not-true _ (c .before .if1 .taken)))
-    (λ c. search needs)
     (λ c κs. tt)
     (λ c κs. tt)
-    (λ c. number-past key07 rest07 from08 _ _ _ (c .before .before .before .before .before .before .before .lit .ensures) (not-true _ (c .before .before .before .before .before .if2 .taken)) _ (c .before .before .before .before .from08 .ensures) (c .if3 .taken) ∙ named22 _ _)
     (λ c κs. tt)
-    (λ c. number-stop key07 rest07 from08 _ _ _ (c .before .before .before .before .before .before .before .before .lit .ensures) (not-true _ (c .before .before .before .before .before .before .if2 .taken)) _ _ (c .before .before .before .before .before .from08 .ensures) (c .before .if3 .left) (c .nothing2 .ensures) ∙ named22 _ _)
+    (λ c. number-missed key07 rest07 from08 _ _ _ (c .before .before .before .before .key .ensures) (not-true _ (c .before .before .if2 .taken)) _ _ (c .before .from08 .ensures) (c .past .ensures) ∙ named22 _ _)
     (λ c κs. tt)
     (λ c κs. tt)
-    (λ c. with-07 _ _ _ _ _ (c .before .before .before .before .before .before .before .lit .ensures) (c .before .before .before .before .field07 .ensures) (c .before .before .no-plan .ensures) ∙ number-there key07 rest07 from08 _ _ _ (c .before .before .before .before .before .before .before .lit .ensures) good-07 good-from08 apart-07 refl (not-false _ (c .before .before .before .before .before .if2 .left)) ∙ named22 _ _))
+    (λ c. with-07 _ _ _ _ _ (c .before .before .before .before .before .before .before .key .ensures) (c .before .before .before .before .field07 .ensures) (c .before .before .no-plan .ensures) ∙ number-there key07 rest07 from08 _ _ _ (c .before .before .before .before .before .before .before .key .ensures) good-07 good-from08 apart-07 refl (not-false _ (c .before .before .before .before .before .if2 .left)) ∙ named22 _ _))

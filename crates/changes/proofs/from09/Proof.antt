@@ -1,4 +1,3 @@
-use borrow.Author.Needs.{needs}
 use mathlib.Core.Path.{refl, ap, _∙_}
 use borrow.Author.Tests.{not-true, not-false}
 use Rattle.scan.specs.Texts.{_⨾_, byte, opt}
@@ -6,7 +5,7 @@ use Rattle.fields.specs.Names.{amended}
 use Rattle.fields.specs.declared.Found09.{Found09}
 use Rattle.fields.specs.Fields.{g09}
 use Rattle.changes.specs.Changes.{from10, from09}
-use Rattle.changes.specs.Ascend.{ascend, number-there, number-past, number-stop, key09, with09, is09, adds09}
+use Rattle.changes.specs.Ascend.{ascend, number-there, number-missed, key09, with09, is09, adds09}
 use Rattle.changes.specs.Keys.{rest09, good-09, good-from10, apart-09}
 use Rattle.changes.proofs.from09.Statement.{statement}
 use Rattle.changes.proofs.from09.Tie as tie
@@ -16,12 +15,10 @@ unfolding from09
 from09-spec =
     tie.close
     (tie.spec
-    (λ c. search needs)
     (λ c κs. tt)
     (λ c κs. tt)
-    (λ c. number-past key09 rest09 from10 _ _ _ (c .before .before .before .before .before .before .before .lit .ensures) (not-true _ (c .before .before .before .before .before .if1 .taken)) _ (c .before .before .before .before .from10 .ensures) (c .if2 .taken))
     (λ c κs. tt)
-    (λ c. number-stop key09 rest09 from10 _ _ _ (c .before .before .before .before .before .before .before .before .lit .ensures) (not-true _ (c .before .before .before .before .before .before .if1 .taken)) _ _ (c .before .before .before .before .before .from10 .ensures) (c .before .if2 .left) (c .nothing .ensures))
+    (λ c. number-missed key09 rest09 from10 _ _ _ (c .before .before .before .before .key .ensures) (not-true _ (c .before .before .if1 .taken)) _ _ (c .before .from10 .ensures) (c .past .ensures))
     (λ c κs. tt)
     (λ c κs. tt)
-    (λ c. let f = is09 _ _ _ _ (c .before .before .before .before .before .before .before .before .before .before .lit .ensures) (c .before .before .before .before .before .before .before .field09 .ensures) in ascend key09 (g09 amended) (opt (byte 45 ⨾ from10)) _ _ (with09 (c .before .before .before .before .before .before .before .field09 .result)) (adds09 _ _ _ f) _ _ (ap (λ (x : Found09). x .end) f) (c .before .before .before .before .before .after09 .ensures) ∙ number-there key09 rest09 from10 _ _ _ (c .before .before .before .before .before .before .before .before .before .before .lit .ensures) good-09 good-from10 apart-09 refl (not-false _ (c .before .before .before .before .before .before .before .before .if1 .left))))
+    (λ c. let f = is09 _ _ _ _ (c .before .before .before .before .before .before .before .before .before .before .key .ensures) (c .before .before .before .before .before .before .before .field09 .ensures) in ascend key09 (g09 amended) (opt (byte 45 ⨾ from10)) _ _ (with09 (c .before .before .before .before .before .before .before .field09 .result)) (adds09 _ _ _ f) _ _ (ap (λ (x : Found09). x .end) f) (c .before .before .before .before .before .after09 .ensures) ∙ number-there key09 rest09 from10 _ _ _ (c .before .before .before .before .before .before .before .before .before .before .key .ensures) good-09 good-from10 apart-09 refl (not-false _ (c .before .before .before .before .before .before .before .before .if1 .left))))

@@ -1,4 +1,3 @@
-use borrow.Author.Needs.{needs}
 use mathlib.Core.Path.{refl, ap, _∙_}
 use borrow.Author.Tests.{not-true, not-false}
 use Rattle.scan.specs.Texts.{_⨾_, byte, opt}
@@ -6,7 +5,7 @@ use Rattle.fields.specs.Names.{amended}
 use Rattle.fields.specs.declared.Found10.{Found10}
 use Rattle.fields.specs.Fields.{g10}
 use Rattle.changes.specs.Changes.{from13, from10}
-use Rattle.changes.specs.Ascend.{ascend, number-there, number-past, number-stop, key10, with10, is10, adds10}
+use Rattle.changes.specs.Ascend.{ascend, number-there, number-missed, key10, with10, is10, adds10}
 use Rattle.changes.specs.Keys.{rest10, good-10, good-from13, apart-10}
 use Rattle.changes.proofs.from10.Statement.{statement}
 use Rattle.changes.proofs.from10.Tie as tie
@@ -16,12 +15,10 @@ unfolding from10
 from10-spec =
     tie.close
     (tie.spec
-    (λ c. search needs)
     (λ c κs. tt)
     (λ c κs. tt)
-    (λ c. number-past key10 rest10 from13 _ _ _ (c .before .before .before .before .before .before .before .lit .ensures) (not-true _ (c .before .before .before .before .before .if1 .taken)) _ (c .before .before .before .before .from13 .ensures) (c .if2 .taken))
     (λ c κs. tt)
-    (λ c. number-stop key10 rest10 from13 _ _ _ (c .before .before .before .before .before .before .before .before .lit .ensures) (not-true _ (c .before .before .before .before .before .before .if1 .taken)) _ _ (c .before .before .before .before .before .from13 .ensures) (c .before .if2 .left) (c .nothing .ensures))
+    (λ c. number-missed key10 rest10 from13 _ _ _ (c .before .before .before .before .key .ensures) (not-true _ (c .before .before .if1 .taken)) _ _ (c .before .from13 .ensures) (c .past .ensures))
     (λ c κs. tt)
     (λ c κs. tt)
-    (λ c. let f = is10 _ _ _ _ (c .before .before .before .before .before .before .before .before .before .lit .ensures) (c .before .before .before .before .before .before .field10 .ensures) in ascend key10 (g10 amended) (opt (byte 45 ⨾ from13)) _ _ (with10 (c .before .before .before .before .before .before .field10 .result)) (adds10 _ _ _ f) _ _ (ap (λ (x : Found10). x .end) f) (c .before .before .before .before .after10 .ensures) ∙ number-there key10 rest10 from13 _ _ _ (c .before .before .before .before .before .before .before .before .before .lit .ensures) good-10 good-from13 apart-10 refl (not-false _ (c .before .before .before .before .before .before .before .if1 .left))))
+    (λ c. let f = is10 _ _ _ _ (c .before .before .before .before .before .before .before .before .before .key .ensures) (c .before .before .before .before .before .before .field10 .ensures) in ascend key10 (g10 amended) (opt (byte 45 ⨾ from13)) _ _ (with10 (c .before .before .before .before .before .before .field10 .result)) (adds10 _ _ _ f) _ _ (ap (λ (x : Found10). x .end) f) (c .before .before .before .before .after10 .ensures) ∙ number-there key10 rest10 from13 _ _ _ (c .before .before .before .before .before .before .before .before .before .key .ensures) good-10 good-from13 apart-10 refl (not-false _ (c .before .before .before .before .before .before .before .if1 .left))))

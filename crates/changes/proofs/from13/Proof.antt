@@ -1,4 +1,3 @@
-use borrow.Author.Needs.{needs}
 use mathlib.Core.Path.{refl, ap, _∙_}
 use borrow.Author.Tests.{not-true, not-false}
 use Rattle.scan.specs.Texts.{_⨾_, byte, opt}
@@ -6,7 +5,7 @@ use Rattle.fields.specs.Names.{amended}
 use Rattle.fields.specs.declared.Found13.{Found13}
 use Rattle.fields.specs.Fields.{g13}
 use Rattle.changes.specs.Changes.{from15, from13}
-use Rattle.changes.specs.Ascend.{ascend, number-there, number-past, number-stop, key13, with13, is13, adds13}
+use Rattle.changes.specs.Ascend.{ascend, number-there, number-missed, key13, with13, is13, adds13}
 use Rattle.changes.specs.Keys.{rest13, good-13, good-from15, apart-13}
 use Rattle.changes.proofs.from13.Statement.{statement}
 use Rattle.changes.proofs.from13.Tie as tie
@@ -16,12 +15,10 @@ unfolding from13
 from13-spec =
     tie.close
     (tie.spec
-    (λ c. search needs)
     (λ c κs. tt)
     (λ c κs. tt)
-    (λ c. number-past key13 rest13 from15 _ _ _ (c .before .before .before .before .before .before .before .lit .ensures) (not-true _ (c .before .before .before .before .before .if1 .taken)) _ (c .before .before .before .before .from15 .ensures) (c .if2 .taken))
     (λ c κs. tt)
-    (λ c. number-stop key13 rest13 from15 _ _ _ (c .before .before .before .before .before .before .before .before .lit .ensures) (not-true _ (c .before .before .before .before .before .before .if1 .taken)) _ _ (c .before .before .before .before .before .from15 .ensures) (c .before .if2 .left) (c .nothing .ensures))
+    (λ c. number-missed key13 rest13 from15 _ _ _ (c .before .before .before .before .key .ensures) (not-true _ (c .before .before .if1 .taken)) _ _ (c .before .from15 .ensures) (c .past .ensures))
     (λ c κs. tt)
     (λ c κs. tt)
-    (λ c. let f = is13 _ _ _ _ (c .before .before .before .before .before .before .before .before .before .lit .ensures) (c .before .before .before .before .before .before .field13 .ensures) in ascend key13 (g13 amended) (opt (byte 45 ⨾ from15)) _ _ (with13 (c .before .before .before .before .before .before .field13 .result)) (adds13 _ _ _ f) _ _ (ap (λ (x : Found13). x .end) f) (c .before .before .before .before .after13 .ensures) ∙ number-there key13 rest13 from15 _ _ _ (c .before .before .before .before .before .before .before .before .before .lit .ensures) good-13 good-from15 apart-13 refl (not-false _ (c .before .before .before .before .before .before .before .if1 .left))))
+    (λ c. let f = is13 _ _ _ _ (c .before .before .before .before .before .before .before .before .before .key .ensures) (c .before .before .before .before .before .before .field13 .ensures) in ascend key13 (g13 amended) (opt (byte 45 ⨾ from15)) _ _ (with13 (c .before .before .before .before .before .before .field13 .result)) (adds13 _ _ _ f) _ _ (ap (λ (x : Found13). x .end) f) (c .before .before .before .before .after13 .ensures) ∙ number-there key13 rest13 from15 _ _ _ (c .before .before .before .before .before .before .before .before .before .key .ensures) good-13 good-from15 apart-13 refl (not-false _ (c .before .before .before .before .before .before .before .if1 .left))))

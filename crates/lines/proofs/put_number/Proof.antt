@@ -11,10 +11,6 @@ use Rattle.lines.proofs.Decimals.{digits-more, digits-last, another, tw
 use Rattle.splice.specs.Splicing.{same-bytes}
 use Rattle.lines.proofs.put_number.Statement.{statement}
 use Rattle.lines.proofs.put_number.Tie as tie
-use Rattle.lines.proofs.put_number.Reads as reads
-use Rattle.lines.proofs.put_number.Lts as lts
-use Rattle.lines.proofs.digit.Reads as digit-reads
-use Rattle.splice.proofs.put.Reads as put-reads
 
 abbrev Inv-loop : tie.InvT-loop
 Inv-loop d at n digits₀ i₀ rest₀ digits i rest =

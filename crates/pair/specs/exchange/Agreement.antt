@@ -17,7 +17,7 @@ use Rattle.pair.specs.kinds.Kinds.{Content, own, near, isYes, properTo, 
 use Rattle.pair.specs.kinds.Views.{View, Learns, Retires, Takes, raised, Hears, first, late, again}
 use Rattle.pair.specs.exchange.Laws.{law-again}
 use Rattle.pair.specs.exchange.KindFacts.{Names}
-use Rattle.pair.specs.exchange.Runs.{Script, num, Side, Mem, here, there, tell, Turn, sends, hears, learns, Reach, begin, left, right, Run, rest, then-left, then-right, further}
+use Rattle.pair.specs.exchange.Runs.{Script, num, Side, Mem, here, tell, Turn, sends, hears, learns, Reach, begin, left, right, Run, rest, then-left, then-right, further}
 use Rattle.pair.specs.exchange.Numbers.{Fits, newest, nums-new, nums-old}
 use Rattle.pair.specs.exchange.Waits.{Waiting, is-waiting, push-back}
 use Rattle.pair.specs.exchange.Flights.{Pend, NoPend, Good, NoGood}
@@ -106,10 +106,6 @@ answer-fits R i x m = let N = reached R .forth .nums in N .fit i x (N .agree i x
 told-here : (X : Side) (i x : ℕ) → Mem x (tell i x X .given i)
 told-here X i x = subst (λ (l : List ℕ). Mem x l) (sym (upd-same (X .given) i (x ∷ X .given i) i refl)) here
 
--- is answered properly
-pub answered : {s t : Script} {X Y : Side} {v : View} → Reach s t X Y → (i x : ℕ) → i < X .len → X .len ≤ i + 400 → Hears (num i) (s i) x (Y .view) v → properTo (s i) x ≡ true
-answered {X = X} R i x lt in-time C = answer-fits (left R (hears i x lt in-time C)) i x (told-here X i x) .0
-
 -- and a neighbour's message is never refused
 pub accepted : {s t : Script} {X Y : Side} {v : View} → Reach s t X Y → (i x : ℕ) (c : Message) → i < X .len → X .len ≤ i + 400 → s i ≡ near c → Hears (num i) (s i) x (Y .view) v → isYes x ≡ true
 accepted {X = X} R i x c lt in-time e C = answer-fits (left R (hears i x lt in-time C)) i x (told-here X i x) .1 c e
@@ -179,22 +175,3 @@ pub for-good : {s t : Script} {X Y X′ Y′ : Side} → Reach s t X Y → Run s
 for-good R rest i lt un = (lt, un)
 for-good R (then-left q u) i lt un = let w = for-good R q i lt un in turn-own (reached (further R q)) u i (w .0) (w .1)
 for-good {s} R (then-right q u) i lt un = let w = for-good R q i lt un in turn-other s u i (w .0) (w .1)
-
--- an answer that was given stays in the channel
-pub stays : {s t : Script} {X Y X′ Y′ : Side} → Run s t X Y X′ Y′ → (i x : ℕ) → Mem x (X .given i) → Mem x (X′ .given i)
-stays rest i x m = m
-stays (then-left q u) i x m = one u (stays q i x m)
-  where
-    one : {s : Script} {X Y X′ Y′ : Side} → Turn s X Y X′ Y′ → Mem x (X .given i) → Mem x (X′ .given i)
-    one (sends C) m = m
-    one (hears {X} j y lt in-time C) m = elim (same? i j) [
-      | inl k ↦ subst (λ (l : List ℕ). Mem x l) (sym (upd-same (X .given) j (y ∷ X .given j) i k)) (there (subst (λ (n : ℕ). Mem x (X .given n)) k m))
-      | inr k ↦ subst (λ (l : List ℕ). Mem x l) (sym (upd-other (X .given) j (y ∷ X .given j) i k)) m
-    ]
-    one (learns j y lt in-time n C) m = m
-stays (then-right q u) i x m = two u (stays q i x m)
-  where
-    two : {t : Script} {X Y X′ Y′ : Side} → Turn t Y X Y′ X′ → Mem x (X .given i) → Mem x (X′ .given i)
-    two (sends C) m = m
-    two (hears j y lt in-time C) m = m
-    two (learns j y lt in-time n C) m = m

@@ -1,6 +1,7 @@
 -- `perform::carry_out` meets its contract.
 use borrow.Author.Needs.{needs}
 use mathlib.Core.Path.{refl}
+use Rattle.excerpt.specs.ByKind.{own-paired}
 use Rattle.excerpt.specs.Fitting.{own-fits, changes-fits, estimate-fits}
 use Rattle.flights.specs.Flight as f
 use Rattle.flights.specs.Flight.{filed, accepted}
@@ -16,13 +17,13 @@ file-requires : tie.Need-file-requires
 file-requires c κs =
     let a = c .before .before .before .before .before .args in
     let h = c .before .before .before .before .before .pre in
-    (h .1, own-fits (a .w .now) (a .r) (h .0), number-small (a .w .now) (a .r) (h .0))
+    (h .1, own-fits (a .w .now) (a .r) (h .0), own-paired (a .w .now) (a .r) (h .0), number-small (a .w .now) (a .r) (h .0))
 
 enter-requires : tie.Need-enter-requires
 enter-requires c κs =
     let a = c .before .before .before .before .before .args in
     let h = c .before .before .before .before .before .pre in
-    (h .1, own-fits (a .w .now) (a .r) (h .0), estimate-fits (a .w .now) (a .r) (h .0), number-small (a .w .now) (a .r) (h .0))
+    (h .1, own-fits (a .w .now) (a .r) (h .0), own-paired (a .w .now) (a .r) (h .0), estimate-fits (a .w .now) (a .r) (h .0), number-small (a .w .now) (a .r) (h .0))
 
 amend-requires : tie.Need-amend-requires
 amend-requires c κs =

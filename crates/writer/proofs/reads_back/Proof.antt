@@ -3,7 +3,7 @@ use borrow.Author.Needs.{needs}
 use mathlib.Core.Path.{subst}
 use Rattle.message.specs.declared.Verdict.{Verdict}
 use Rattle.reader.specs.Reading.{Judged}
-use Rattle.writing.specs.Comparing.{back-read, back-refused}
+use Rattle.writer.specs.Comparing.{back-read, back-refused}
 use Rattle.writer.proofs.reads_back.Statement.{statement}
 use Rattle.writer.proofs.reads_back.Tie as tie
 

@@ -1,0 +1,38 @@
+-- A head that was written over 12 bytes.
+use mathlib.Core.Path.{_≡_, refl, ap, _∙_}
+use mathlib.Core.List.{List, [], _∷_, _++_}
+use Prim.Native.Nat.{ℕ, _+_, _≤_}
+use native.Mathlib.Omega.{arith}
+use lib.ListN.{length, drop-of-length-le}
+use Rattle.head.specs.declared.Head.{Head}
+use Rattle.splice.specs.Splice.{splice, Spliced}
+use Rattle.splice.specs.Splicing as splicing
+use Rattle.packed.specs.Numbers.{bytesIn}
+use Rattle.packed.specs.Laid.{Puts, spliced}
+use Rattle.packed.specs.Laid as laid
+use Rattle.packed.specs.Head.{headBytes}
+
+pub nothing-after : (l : List ℕ) → l ++ [] ≡ l
+nothing-after [] = refl
+nothing-after (x ∷ l) = ap (λ (r : List ℕ). x ∷ r) (nothing-after l)
+
+-- what was written over all
+over-all : (s d e : List ℕ) (n : ℕ) → Spliced 0 s d e n → length s ≡ length d → e ≡ s
+unfolding splice
+over-all s d e n p z =
+    let y : length d ≤ 0 + length s = omega arith in
+    p .bytes ∙ ap (λ (x : List ℕ). s ++ x) (drop-of-length-le d y) ∙ nothing-after s
+
+module _ (h : Head) (m : length (h .ours) ≡ 4) (n : length (h .partners) ≡ 4) (b c d e f : List ℕ) (z : length b ≡ 12) where
+  pub head-put : {i j k l : ℕ} → Spliced 0 (h .ours) b c i → Spliced 4 (h .partners) c d j → Puts 4 (h .next ∷ []) d e k → Puts 5 (h .highest ∷ []) e f l → f ≡ headBytes h
+  unfolding headBytes
+  head-put p q r s =
+      let p′ : Spliced 0 (h .ours) b c 4 = record { bytes = p .bytes; place = omega arith } in
+      let q′ : Spliced 4 (h .partners) c d 8 = record { bytes = q .bytes; place = omega arith } in
+      let pq : Spliced 0 (h .ours ++ h .partners) b d 8 = splicing.then p′ q′ (omega arith) in
+      let x : length d ≡ 12 = splicing.kept-length pq (omega arith) ∙ z in
+      let r′ : Puts 4 (h .next ∷ []) d e 5 = record { bytes = r .bytes; place = refl; long = r .long } in
+      let s′ : Puts 5 (h .highest ∷ []) e f 6 = record { bytes = s .bytes; place = refl; long = s .long } in
+      let rs : Puts 4 (h .next ∷ h .highest ∷ []) d f 6 = laid.then r′ s′ (omega arith) in
+      let all : Spliced 0 (h .ours ++ h .partners ++ bytesIn (h .next ∷ h .highest ∷ [])) b f 12 = splicing.then pq (spliced rs) (omega arith) in
+      over-all _ b f 12 all (omega (arith, all .place))

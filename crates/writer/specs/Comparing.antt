@@ -1,0 +1,213 @@
+-- How two records are held against each other.
+use mathlib.Core.Path.{_≡_, refl, sym, ap, _∙_, subst}
+use mathlib.Core.Logic.{_⊎_, ⊎-elim}
+use mathlib.Core.Bool.{Bool, true, false, cond, _&&_, false≢true}
+use mathlib.Core.List.{List, [], _∷_, _++_}
+use Prim.Native.Nat.{ℕ}
+use lib.Dec.{eqb}
+use borrow.Author.Tests.{eqb-true, eq-eqb}
+use Rattle.scan.specs.Bools.{and-l, and-r, both, or-split, known, Decides, decides-and, decides-as, decides-by, equals}
+use Rattle.scan.specs.declared.Span.{Span}
+use Rattle.scan.specs.Grammar.{Part, look}
+use Rattle.scan.specs.Scanner.{among}
+use Rattle.types.specs.declared.Parts.{Parts}
+use Rattle.message.specs.declared.Kind.{Kind}
+use Rattle.message.specs.declared.Kind.the-variants.{None, Fpl, Cpl, Est, Chg, Cnl, Rti, Rta, Rla, Lam, Lrm}
+use Rattle.message.specs.declared.LevelKind.{LevelKind}
+use Rattle.message.specs.declared.LevelKind.the-variants.{Absent, FlightLevel, Altitude, MetricLevel, MetricAltitude, Vfr}
+use Rattle.message.specs.declared.PointForm.{PointForm}
+use Rattle.message.specs.declared.PointForm.the-variants.{NoPoint, Name, Bearing, Degrees, Minutes}
+use Rattle.message.specs.declared.Level.{Level}
+use Rattle.message.specs.declared.PlanFigures.{PlanFigures}
+use Rattle.message.specs.declared.Figures.{Figures}
+use Rattle.message.specs.declared.Record.{Record}
+use Rattle.message.specs.declared.Verdict.the-variants.{Read, Refused}
+use Rattle.reader.specs.Reading.{Judged}
+use Rattle.reader.specs.Reader.{one-record, derived-read}
+use Rattle.pen.specs.Listed.{numberParts, planParts, restParts, partsIn}
+use Rattle.compose.specs.Composed.{sizes}
+use Rattle.compose.specs.Recorded.{partNames, listed, nameless}
+use Rattle.writer.specs.Writer.{Alike}
+
+-- THE VARIANTS AS NUMBERS
+
+unfoldable pub kindCode : Kind → ℕ
+kindCode None = 0
+kindCode Fpl = 1
+kindCode Cpl = 2
+kindCode Est = 3
+kindCode Chg = 4
+kindCode Cnl = 5
+kindCode Rti = 6
+kindCode Rta = 7
+kindCode Rla = 8
+kindCode Lam = 9
+kindCode Lrm = 10
+
+unfoldable pub levelCode : LevelKind → ℕ
+levelCode Absent = 0
+levelCode FlightLevel = 1
+levelCode Altitude = 2
+levelCode MetricLevel = 3
+levelCode MetricAltitude = 4
+levelCode Vfr = 5
+
+unfoldable pub formCode : PointForm → ℕ
+formCode NoPoint = 0
+formCode Name = 1
+formCode Bearing = 2
+formCode Degrees = 3
+formCode Minutes = 4
+
+-- and back
+
+unfoldable kindAt : ℕ → Kind
+kindAt m =
+    cond (eqb m 0) None
+    (cond (eqb m 1) Fpl
+    (cond (eqb m 2) Cpl
+    (cond (eqb m 3) Est
+    (cond (eqb m 4) Chg
+    (cond (eqb m 5) Cnl
+    (cond (eqb m 6) Rti
+    (cond (eqb m 7) Rta
+    (cond (eqb m 8) Rla
+    (cond (eqb m 9) Lam Lrm)))))))))
+
+kindAt-is : (k : Kind) → kindAt (kindCode k) ≡ k
+unfolding kindAt kindCode
+kindAt-is None = refl
+kindAt-is Fpl = refl
+kindAt-is Cpl = refl
+kindAt-is Est = refl
+kindAt-is Chg = refl
+kindAt-is Cnl = refl
+kindAt-is Rti = refl
+kindAt-is Rta = refl
+kindAt-is Rla = refl
+kindAt-is Lam = refl
+kindAt-is Lrm = refl
+
+kindCode-one : (a b : Kind) → Decides (eqb (kindCode a) (kindCode b)) (a ≡ b)
+kindCode-one a b = decides-as (λ e. sym (kindAt-is a) ∙ ap kindAt e ∙ kindAt-is b) (ap kindCode) (equals (kindCode a) (kindCode b))
+
+unfoldable levelAt : ℕ → LevelKind
+levelAt m =
+    cond (eqb m 0) Absent
+    (cond (eqb m 1) FlightLevel
+    (cond (eqb m 2) Altitude
+    (cond (eqb m 3) MetricLevel
+    (cond (eqb m 4) MetricAltitude Vfr))))
+
+levelAt-is : (k : LevelKind) → levelAt (levelCode k) ≡ k
+unfolding levelAt levelCode
+levelAt-is Absent = refl
+levelAt-is FlightLevel = refl
+levelAt-is Altitude = refl
+levelAt-is MetricLevel = refl
+levelAt-is MetricAltitude = refl
+levelAt-is Vfr = refl
+
+levelCode-one : (a b : LevelKind) → Decides (eqb (levelCode a) (levelCode b)) (a ≡ b)
+levelCode-one a b = decides-as (λ e. sym (levelAt-is a) ∙ ap levelAt e ∙ levelAt-is b) (ap levelCode) (equals (levelCode a) (levelCode b))
+
+unfoldable formAt : ℕ → PointForm
+formAt m =
+    cond (eqb m 0) NoPoint
+    (cond (eqb m 1) Name
+    (cond (eqb m 2) Bearing
+    (cond (eqb m 3) Degrees Minutes)))
+
+formAt-is : (k : PointForm) → formAt (formCode k) ≡ k
+unfolding formAt formCode
+formAt-is NoPoint = refl
+formAt-is Name = refl
+formAt-is Bearing = refl
+formAt-is Degrees = refl
+formAt-is Minutes = refl
+
+formCode-one : (a b : PointForm) → Decides (eqb (formCode a) (formCode b)) (a ≡ b)
+formCode-one a b = decides-as (λ e. sym (formAt-is a) ∙ ap formAt e ∙ formAt-is b) (ap formCode) (equals (formCode a) (formCode b))
+
+-- LEVELS AND FIGURES
+
+pub level-same : (a b : Level) → Decides (eqb (levelCode (a .kind)) (levelCode (b .kind)) && eqb (a .figure) (b .figure)) (a ≡ b)
+level-same a b =
+    decides-as (λ p. λ i. record { kind = p .0 i; figure = p .1 i }) (λ e. (ap (λ (x : Level). x .kind) e, ap (λ (x : Level). x .figure) e))
+    (decides-and (levelCode-one (a .kind) (b .kind)) (equals (a .figure) (b .figure)))
+
+pub plan-figures-same : (a b : PlanFigures) (l : Bool) → Decides l (a .level ≡ b .level) → Decides (eqb (a .count) (b .count) && l) (a ≡ b)
+plan-figures-same a b l h =
+    decides-as (λ p. λ i. record { count = p .0 i; level = p .1 i }) (λ e. (ap (λ (x : PlanFigures). x .count) e, ap (λ (x : PlanFigures). x .level) e))
+    (decides-and (equals (a .count) (b .count)) h)
+
+pub figures-same : (a b : Figures) (o f c s h : Bool) → Decides o (a .own ≡ b .own) → f ≡ eqb (formCode (a .form)) (formCode (b .form)) → Decides c (a .crossing ≡ b .crossing) → Decides s (a .second ≡ b .second) → Decides h (a .changes ≡ b .changes) → Decides (((((((eqb (a .number) (b .number) && eqb (a .reference) (b .reference)) && o) && f) && c) && s) && h) && eqb (a .reason) (b .reason)) (a ≡ b)
+figures-same a b o f c s h xo xf xc xs xh =
+    decides-as
+    (λ p. λ i. record { number = p .0 .0 .0 .0 .0 .0 .0 i; reference = p .0 .0 .0 .0 .0 .0 .1 i; own = p .0 .0 .0 .0 .0 .1 i; form = p .0 .0 .0 .0 .1 i; crossing = p .0 .0 .0 .1 i; second = p .0 .0 .1 i; changes = p .0 .1 i; reason = p .1 i })
+    (λ e. (((((((ap (λ (x : Figures). x .number) e, ap (λ (x : Figures). x .reference) e), ap (λ (x : Figures). x .own) e), ap (λ (x : Figures). x .form) e), ap (λ (x : Figures). x .crossing) e), ap (λ (x : Figures). x .second) e), ap (λ (x : Figures). x .changes) e), ap (λ (x : Figures). x .reason) e))
+    (decides-and (decides-and (decides-and (decides-and (decides-and (decides-and (decides-and (equals (a .number) (b .number)) (equals (a .reference) (b .reference))) xo) (decides-by xf (formCode-one (a .form) (b .form)))) xc) xs) xh) (equals (a .reason) (b .reason)))
+
+-- LENGTHS, one part after the other
+
+abbrev pub evenly : Bool → List Part → List Part → Bool
+evenly b [] qs = b
+evenly b (p ∷ ps) [] = b
+evenly b (p ∷ ps) (q ∷ qs) = evenly (b && eqb (p .span .len) (q .span .len)) ps qs
+
+pub evenly-on : (b : Bool) (ps qs : List Part) → evenly b ps qs ≡ b && evenly true ps qs
+evenly-on true ps qs = refl
+evenly-on false [] qs = refl
+evenly-on false (p ∷ ps) [] = refl
+evenly-on false (p ∷ ps) (q ∷ qs) = evenly-on false ps qs
+
+pub all-even : (a b : Parts) (m r o c t : Bool) → m ≡ evenly true (numberParts 0 0 0 (a .number)) (numberParts 0 0 0 (b .number)) → r ≡ evenly true (numberParts 0 0 0 (a .reference)) (numberParts 0 0 0 (b .reference)) → o ≡ evenly true (planParts 0 (a .own)) (planParts 0 (b .own)) → c ≡ evenly true (planParts 0 (a .changes)) (planParts 0 (b .changes)) → t ≡ evenly true (restParts a) (restParts b) → (((m && r) && o) && c) && t ≡ evenly true (partsIn a) (partsIn b)
+all-even a b m r o c t em er eo ec et =
+    let x : m && r ≡ evenly true (numberParts 0 0 0 (a .number) ++ numberParts 0 0 0 (a .reference)) (numberParts 0 0 0 (b .number) ++ numberParts 0 0 0 (b .reference)) = (λ i. em i && er i) ∙ sym (evenly-on (evenly true (numberParts 0 0 0 (a .number)) (numberParts 0 0 0 (b .number))) (numberParts 0 0 0 (a .reference)) (numberParts 0 0 0 (b .reference))) in
+    let y = (λ i. x i && eo i) ∙ sym (evenly-on (evenly true (numberParts 0 0 0 (a .number) ++ numberParts 0 0 0 (a .reference)) (numberParts 0 0 0 (b .number) ++ numberParts 0 0 0 (b .reference))) (planParts 0 (a .own)) (planParts 0 (b .own))) in
+    let z = (λ i. y i && ec i) ∙ sym (evenly-on (evenly true (numberParts 0 0 0 (a .number) ++ (numberParts 0 0 0 (a .reference) ++ planParts 0 (a .own))) (numberParts 0 0 0 (b .number) ++ (numberParts 0 0 0 (b .reference) ++ planParts 0 (b .own)))) (planParts 0 (a .changes)) (planParts 0 (b .changes))) in
+    (λ i. z i && et i) ∙ sym (evenly-on (evenly true (numberParts 0 0 0 (a .number) ++ (numberParts 0 0 0 (a .reference) ++ (planParts 0 (a .own) ++ planParts 0 (a .changes)))) (numberParts 0 0 0 (b .number) ++ (numberParts 0 0 0 (b .reference) ++ (planParts 0 (b .own) ++ planParts 0 (b .changes))))) (restParts a) (restParts b))
+
+module _ (f g : ℕ → Span) where
+  evenly-yes : (ns : List ℕ) → evenly true (listed f ns) (listed g ns) ≡ true → (k : ℕ) → among k ns ≡ true → f k .len ≡ g k .len
+  unfolding among
+  evenly-yes [] e k h = absurd (false≢true h)
+  evenly-yes (m ∷ ns) e k h =
+      let z : eqb (f m .len) (g m .len) && evenly true (listed f ns) (listed g ns) ≡ true = sym (evenly-on (eqb (f m .len) (g m .len)) (listed f ns) (listed g ns)) ∙ e in
+      ⊎-elim
+      (λ y. subst (λ (n : ℕ). f n .len ≡ g n .len) (sym (eqb-true k m y)) (eqb-true (f m .len) (g m .len) (and-l (eqb (f m .len) (g m .len)) (evenly true (listed f ns) (listed g ns)) z)))
+      (λ y. evenly-yes ns (and-r (eqb (f m .len) (g m .len)) (evenly true (listed f ns) (listed g ns)) z) k y)
+      (or-split (eqb k m) (among k ns) h)
+
+  evenly-no : (ns : List ℕ) → ((k : ℕ) → f k .len ≡ g k .len) → evenly true (listed f ns) (listed g ns) ≡ true
+  evenly-no [] h = refl
+  evenly-no (m ∷ ns) h = evenly-on (eqb (f m .len) (g m .len)) (listed f ns) (listed g ns) ∙ both (eqb (f m .len) (g m .len)) (evenly true (listed f ns) (listed g ns)) (eq-eqb (f m .len) (g m .len) (h m)) (evenly-no ns h)
+
+pub lengths-same : (a b : Record) → Decides (evenly true (partsIn (a .parts)) (partsIn (b .parts))) ((k : ℕ) → sizes a k ≡ sizes b k)
+lengths-same a b = record {
+  yes = λ e k.
+      ⊎-elim
+      (λ h. evenly-yes (λ m. look m (partsIn (a .parts))) (λ m. look m (partsIn (b .parts))) partNames e k h)
+      (λ h. ap (λ (p : Span). p .len) (nameless a k h ∙ sym (nameless b k h)))
+      (known (among k partNames));
+  no = λ h. evenly-no (λ m. look m (partsIn (a .parts))) (λ m. look m (partsIn (b .parts))) partNames h;
+}
+
+-- TWO RECORDS
+
+pub records-alike : (a b : Record) (l f : Bool) → Decides l ((k : ℕ) → sizes a k ≡ sizes b k) → Decides f (a .figures ≡ b .figures) → Decides ((eqb (kindCode (a .kind)) (kindCode (b .kind)) && l) && f) (Alike a b)
+records-alike a b l f x y =
+    decides-as (λ p. record { kinds = p .0 .0; lengths = p .0 .1; figures = p .1 }) (λ z. ((z .kinds, z .lengths), z .figures))
+    (decides-and (decides-and (kindCode-one (a .kind) (b .kind)) x) y)
+
+-- a text reads back as a record
+pub record Back (t : List ℕ) (r : Record) : Type 0 where
+  pub its : Record
+  pub read : Judged t Read its
+  pub same : Alike its r
+
+pub back-read : (t : List ℕ) (r q : Record) (b : Bool) → Judged t Read q → Decides b (Alike q r) → Decides b (Back t r)
+back-read t r q b j d = decides-as (λ a. record { its = q; read = j; same = a }) (λ x. subst (λ (z : Record). Alike z r) (one-record t (x .its) q (x .read) j) (x .same)) d
+
+pub back-refused : (t : List ℕ) (r q : Record) (n h : ℕ) → Judged t (Refused n h) q → Decides false (Back t r)
+back-refused t r q n h j = record { yes = λ e. absurd (false≢true e); no = λ x. absurd (j .0 .never (derived-read t (x .its) (x .read))) }
