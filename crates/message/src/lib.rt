@@ -93,14 +93,21 @@ fn byte_at(s: &[u8], i: usize) -> u8
     0
 }
 
+// The number that a digit stands for.
+fn value(b: u8) -> usize
+    ensures { λ r. ⌜ (r ≡ b - 48) × (r < 256) ⌝ }
+{
+    let n = scan::wide(b);
+    if n < 48 {
+        return 0;
+    }
+    n - 48
+}
+
 fn digit(s: &[u8], i: usize) -> usize
     ensures { λ r. ⌜ (r ≡ getD (now (s .entry)) i 0 - 48) × (r < 256) ⌝ }
 {
-    let b = scan::wide(byte_at(s, i));
-    if b < 48 {
-        return 0;
-    }
-    b - 48
+    value(byte_at(s, i))
 }
 
 // The number that the digits at `at` stand for; none has more than four.
@@ -128,6 +135,19 @@ fn figure(s: &[u8], at: usize, len: usize) -> usize
         return d;
     }
     0
+}
+
+// Three digits, as the number of a message and most levels have: where they stand is tested once.
+fn three(s: &[u8], at: usize) -> usize
+    requires { ⌜ at ≤ 65536 ⌝ }
+    ensures { λ r. ⌜ r ≡ figureAt 3 (now (s .entry)) at ⌝ }
+{
+    if at + 3 <= s.len() {
+        let a = value(s[at]);
+        let b = a * 10 + value(s[at + 1]);
+        return b * 10 + value(s[at + 2]);
+    }
+    figure(s, at, 3)
 }
 
 fn level_kind(b: u8) -> LevelKind
@@ -166,6 +186,12 @@ fn level_in(s: &[u8], p: Span) -> Level
         };
     }
     let kind = level_kind(byte_at(s, at));
+    if len == 4 {
+        return Level {
+            kind,
+            figure: three(s, at + 1),
+        };
+    }
     Level {
         kind,
         figure: figure(s, at + 1, len - 1),
@@ -210,6 +236,9 @@ fn number_figure(s: &[u8], p: Span) -> usize
 {
     let at = p.at as usize;
     let len = p.len as usize;
+    if len == 3 {
+        return three(s, at);
+    }
     figure(s, at, len)
 }
 

@@ -78,9 +78,10 @@ pub fn read(s: &[u8]) -> Outcome
     let end = q.end;
     let place = end.next;
     if end.ok & (place == s.len()) {
-        let parts = q.parts;
+        // a copy of its own for the numbers, so that the parts go to the record in one piece
+        let figures = message::decoded(s, q.parts);
         let its = message::kind_in(s);
-        let figures = message::decoded(s, parts);
+        let parts = q.parts;
         return Outcome {
             verdict: Verdict::Read,
             record: Record {

@@ -11,7 +11,7 @@ returns c =
     let q = c .before .before .before .before .before .before .scan-any .ensures in
     let s = c .before .before .before .before .before .before .before .before .args .s .now in
     read-judged s _ _ q (c .before .before .before .if1 .taken)
-    (λ i. record { kind = c .before .kind-in .ensures i; parts = q i .parts; figures = (c .decoded .ensures ∙ (λ j. figuresOf s (q j .parts))) i })
+    (λ i. record { kind = c .before .kind-in .ensures i; parts = q i .parts; figures = (c .before .before .decoded .ensures ∙ (λ j. figuresOf s (q j .parts))) i })
 
 slice-aggregate-hyphens : tie.Need-slice-aggregate-hyphens
 slice-aggregate-hyphens c = place-within (c .before .before .before .before .before .before .args .s .now) _ (c .before .before .before .before .scan-any .ensures)
