@@ -62,7 +62,7 @@ found22-same a b s r p = sym (λ i. record { end = p .0 i; plan = planOf (λ k. 
 unfoldable pub nothing22 : Scan → Found22
 nothing22 r = record { end = r; plan = noPlan }
 
--- a number is there as far as a only: the later ones, unless they are behind
+-- a number is there up to a and no further: what the later ones find, unless they end before a
 abbrev pub Past : Scan → Found22 → Found22 → Type 0
 Past a later q = (a .next ≤ later .end .next → q ≡ later) × (later .end .next < a .next → q ≡ nothing22 a)
 

@@ -96,7 +96,7 @@ fn key(s: &[u8], r: Scan, a: u8, b: u8) -> Scan
     scan::byte(s, y, b'/')
 }
 
-// The later numbers, where one is there as far as a only.
+// What the later numbers find, unless they end before a, up to which this number is there.
 fn past(a: Scan, later: Found22) -> Found22
     ensures { λ q. ⌜ Past a later q ⌝ }
 {

@@ -198,7 +198,7 @@ fn estimated(x: Found14) -> Estimate
     }
 }
 
-// The fields by which most messages name a flight.
+// The fields by which most messages name a flight, and field 18.
 fn named(
     aircraft: Span,
     code: Span,
