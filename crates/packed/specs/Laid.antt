@@ -1,14 +1,15 @@
 -- Numbers that are written one behind the other.
 use mathlib.Core.Path.{_≡_, refl, sym, ap, _∙_, subst}
 use mathlib.Core.List.{List, [], _∷_, _++_}
-use Prim.Native.Nat.{ℕ, _+_, _*_, _≤_}
+use Prim.Native.Nat.{ℕ, suc, _+_, _*_, _≤_, _<_}
 use native.Mathlib.Omega.{arith}
-use lib.ListN.{length, drop, set, length-set, length-append}
+use lib.ListN.{length, getD, take, drop, set, length-set, length-append}
+use lib.Seq.{length-take-le, take-all, take-suc}
 use Rattle.message.specs.declared.Record.{Record}
 use Rattle.places.specs.Bytes.{high, low}
 use Rattle.splice.specs.Splice.{splice, Spliced}
 use Rattle.splice.specs.Splicing as s
-use Rattle.splice.specs.Inside.{set-splice}
+use Rattle.splice.specs.Inside.{set-splice, splice-same}
 use Rattle.packed.specs.Numbers.{bytesIn, bytes-long, bytes-join}
 use Rattle.packed.specs.Packed.{numbersOf, packedOf}
 
@@ -41,9 +42,31 @@ one k n d h =
     let b : Spliced (2 * k + 1) (low n ∷ []) e (set e (2 * k + 1) (low n)) (2 * k + 2) = record { bytes = set-splice e (2 * k + 1) (low n) (omega arith); place = omega arith } in
     record { bytes = s.then a b h .bytes; place = refl; long = length-set e (2 * k + 1) (low n) ∙ l }
 
--- of another number that is the same
+-- of other numbers that are the same
+pub same : {k next : ℕ} {ns ms d e : List ℕ} → ns ≡ ms → Puts k ns d e next → Puts k ms d e next
+same {k} {next} {ns} {ms} {d} {e} q p = subst (λ (x : List ℕ). Puts k x d e next) q p
+
+-- A ROW OF NUMBERS, from the first on: none of them, one more, and all
+pub none : (k : ℕ) (d : List ℕ) → 2 * k ≤ length d → Puts k [] d d (k + 0)
+unfolding bytesIn
+none k d h = record { bytes = sym (splice-same (2 * k) 0 d (omega arith)); place = omega arith; long = refl }
+
+pub more : {k i n : ℕ} {d e f : List ℕ} (row : List ℕ) → i < length row → 2 * k + 2 * length row ≤ length d → Puts k (take i row) d e (k + i) → Puts (k + i) (getD row i 0 ∷ []) e f n → Puts k (take (i + 1) row) d f (k + (i + 1))
+more {k} {i} {n} {d} {e} {f} row h l p q =
+    let t : Puts k (take i row ++ (getD row i 0 ∷ [])) d f n = then p q (omega (arith, q .place)) in
+    let o : i + 1 ≡ suc i = omega arith in
+    let z : take (i + 1) row ≡ take i row ++ (getD row i 0 ∷ []) = ap (λ (j : ℕ). take j row) o ∙ take-suc row i 0 h in
+    record {
+      bytes = t .bytes ∙ ap (λ (x : List ℕ). splice (2 * k) (bytesIn x) d) (sym z);
+      place = omega (arith, length-take-le (i + 1) row (omega arith));
+      long = t .long;
+    }
+
+pub all : {k i n : ℕ} {d e : List ℕ} (row : List ℕ) → Puts k (take i row) d e n → length row ≤ i → Puts k row d e n
+all {i = i} row p h = same (take-all i row h) p
+
 pub named : {k n m next : ℕ} {d e : List ℕ} → n ≡ m → Puts k (n ∷ []) d e next → Puts k (m ∷ []) d e next
-named {k} {n} {m} {next} {d} {e} q p = subst (λ (x : ℕ). Puts k (x ∷ []) d e next) q p
+named q p = same (ap (λ (x : ℕ). x ∷ []) q) p
 
 -- the whole record, at the start of a buffer
 pub whole : (r : Record) (d e : List ℕ) (n : ℕ) → Puts 0 (numbersOf r) d e n → e ≡ packedOf r ++ drop 246 d

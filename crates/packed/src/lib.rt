@@ -104,15 +104,98 @@ fn put_number(out: &mut [u8], k: usize, n: Number) -> usize
     put_span(out, b, n.digits)
 }
 
+fn wide(n: u16) -> usize
+    ensures { λ r. ⌜ r ≡ n ⌝ }
+{
+    n as usize
+}
+
+// The numbers of a row, one after the other. It is a loop, so that eight of them go at a time.
+fn put_row(out: &mut [u8], k: usize, row: &[u16]) -> usize
+    requires { ⌜ 2 * k + 2 * length (now row) ≤ length (now out) ⌝ }
+    ensures { λ r. ⌜ Puts k (now (row .entry)) (now (out .entry)) (now (out .exit)) r ⌝ }
+{
+    let mut i = 0;
+    while i < row.len() {
+        put_one(out, k + i, wide(row[i]));
+        i += 1;
+    }
+    k + i
+}
+
+fn plan_row(p: Plan) -> [u16; 40]
+    ensures { λ r. ⌜ r ≡ planNumbers p ⌝ }
+{
+    let aircraft = p.aircraft;
+    let code = p.code;
+    let rules = p.rules;
+    let flight = p.flight;
+    let count = p.count;
+    let model = p.model;
+    let wake = p.wake;
+    let equipment = p.equipment;
+    let surveillance = p.surveillance;
+    let departure = p.departure;
+    let time = p.time;
+    let speed = p.speed;
+    let level = p.level;
+    let route = p.route;
+    let destination = p.destination;
+    let elapsed = p.elapsed;
+    let alternate = p.alternate;
+    let alternate2 = p.alternate2;
+    let indicator = p.indicator;
+    let other = p.other;
+    [
+        aircraft.at,
+        aircraft.len,
+        code.at,
+        code.len,
+        rules.at,
+        rules.len,
+        flight.at,
+        flight.len,
+        count.at,
+        count.len,
+        model.at,
+        model.len,
+        wake.at,
+        wake.len,
+        equipment.at,
+        equipment.len,
+        surveillance.at,
+        surveillance.len,
+        departure.at,
+        departure.len,
+        time.at,
+        time.len,
+        speed.at,
+        speed.len,
+        level.at,
+        level.len,
+        route.at,
+        route.len,
+        destination.at,
+        destination.len,
+        elapsed.at,
+        elapsed.len,
+        alternate.at,
+        alternate.len,
+        alternate2.at,
+        alternate2.len,
+        indicator.at,
+        indicator.len,
+        other.at,
+        other.len,
+    ]
+}
+
 fn put_plan(out: &mut [u8], k: usize, p: Plan) -> usize
     requires { ⌜ 2 * k + 80 ≤ length (now out) ⌝ }
     ensures { λ r. ⌜ Puts k (planNumbers p) (now (out .entry)) (now (out .exit)) r ⌝ }
 {
-    let a = put_four(out, k, p.aircraft, p.code, p.rules, p.flight);
-    let b = put_four(out, a, p.count, p.model, p.wake, p.equipment);
-    let c = put_four(out, b, p.surveillance, p.departure, p.time, p.speed);
-    let d = put_four(out, c, p.level, p.route, p.destination, p.elapsed);
-    put_four(out, d, p.alternate, p.alternate2, p.indicator, p.other)
+    let row = plan_row(p);
+    put_row(out, k, &row)
 }
 
 fn put_estimate(out: &mut [u8], k: usize, e: Estimate) -> usize
