@@ -10,8 +10,7 @@ use lib.Dec.{eqb, ltb}
 use borrow.Author.Tests.{ltb-true, ltb-false}
 use Rattle.scan.specs.Bools.{known}
 use Rattle.scan.specs.declared.Scan.{Scan}
-use Rattle.scan.specs.declared.Span.{Span}
-use Rattle.scan.specs.Grammar.{G, alt, none}
+use Rattle.scan.specs.Grammar.{Span, G, alt, none}
 use Rattle.scan.specs.Texts.{_⨾_, lit}
 use Rattle.scan.specs.Scanner.{scan, among, occurs, spanBy, spot}
 use Rattle.scan.specs.Tests.{good}

@@ -6,8 +6,7 @@ use mathlib.Core.Bool.{Bool, true, false, cond}
 use mathlib.Core.List.{List}
 use Prim.Native.Nat.{ℕ, _+_, _≤_, _<_}
 use Rattle.scan.specs.declared.Scan.{Scan}
-use Rattle.scan.specs.declared.Span.{Span}
-use Rattle.scan.specs.Grammar.{G, eps, alt, none}
+use Rattle.scan.specs.Grammar.{Span, G, eps, alt, none}
 use Rattle.scan.specs.Texts.{_⨾_, byte, opt}
 use Rattle.scan.specs.Scanner.{scan, longer, leads, occurs, spanBy, spot}
 use Rattle.scan.specs.Bools.{known}

@@ -116,10 +116,8 @@ fn from18(s: &[u8], r: Scan) -> Found22
     let e = f.end;
     let end = e;
     let mut plan = no_plan();
-    let indicator = f.indicator;
-    plan.indicator = indicator;
-    let other = f.other;
-    plan.other = other;
+    plan.indicator = f.indicator;
+    plan.other = f.other;
     Found22 { end, plan }
 }
 
@@ -147,14 +145,10 @@ fn from16(s: &[u8], r: Scan) -> Found22
     let t = after16(s, e);
     let end = t.end;
     let mut plan = t.plan;
-    let destination = f.destination;
-    plan.destination = destination;
-    let elapsed = f.elapsed;
-    plan.elapsed = elapsed;
-    let alternate = f.alternate;
-    plan.alternate = alternate;
-    let alternate2 = f.alternate2;
-    plan.alternate2 = alternate2;
+    plan.destination = f.destination;
+    plan.elapsed = f.elapsed;
+    plan.alternate = f.alternate;
+    plan.alternate2 = f.alternate2;
     Found22 { end, plan }
 }
 
@@ -182,12 +176,9 @@ fn from15(s: &[u8], r: Scan) -> Found22
     let t = after15(s, e);
     let end = t.end;
     let mut plan = t.plan;
-    let speed = f.speed;
-    plan.speed = speed;
-    let level = f.level;
-    plan.level = level;
-    let route = f.route;
-    plan.route = route;
+    plan.speed = f.speed;
+    plan.level = f.level;
+    plan.route = f.route;
     Found22 { end, plan }
 }
 
@@ -215,10 +206,8 @@ fn from13(s: &[u8], r: Scan) -> Found22
     let t = after13(s, e);
     let end = t.end;
     let mut plan = t.plan;
-    let departure = f.departure;
-    plan.departure = departure;
-    let time = f.time;
-    plan.time = time;
+    plan.departure = f.departure;
+    plan.time = f.time;
     Found22 { end, plan }
 }
 
@@ -246,10 +235,8 @@ fn from10(s: &[u8], r: Scan) -> Found22
     let t = after10(s, e);
     let end = t.end;
     let mut plan = t.plan;
-    let equipment = f.equipment;
-    plan.equipment = equipment;
-    let surveillance = f.surveillance;
-    plan.surveillance = surveillance;
+    plan.equipment = f.equipment;
+    plan.surveillance = f.surveillance;
     Found22 { end, plan }
 }
 
@@ -277,12 +264,9 @@ fn from09(s: &[u8], r: Scan) -> Found22
     let t = after09(s, e);
     let end = t.end;
     let mut plan = t.plan;
-    let count = f.count;
-    plan.count = count;
-    let model = f.model;
-    plan.model = model;
-    let wake = f.wake;
-    plan.wake = wake;
+    plan.count = f.count;
+    plan.model = f.model;
+    plan.wake = f.wake;
     Found22 { end, plan }
 }
 
@@ -310,10 +294,8 @@ fn from08(s: &[u8], r: Scan) -> Found22
     let t = after08(s, e);
     let end = t.end;
     let mut plan = t.plan;
-    let rules = f.rules;
-    plan.rules = rules;
-    let flight = f.flight;
-    plan.flight = flight;
+    plan.rules = f.rules;
+    plan.flight = f.flight;
     Found22 { end, plan }
 }
 
@@ -331,10 +313,8 @@ fn changes(s: &[u8], r: Scan) -> Found22
     let f = plan_fields::field07(s, a);
     let end = f.end;
     let mut plan = no_plan();
-    let aircraft = f.aircraft;
-    plan.aircraft = aircraft;
-    let code = f.code;
-    plan.code = code;
+    plan.aircraft = f.aircraft;
+    plan.code = f.code;
     Found22 { end, plan }
 }
 

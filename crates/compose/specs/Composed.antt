@@ -10,7 +10,7 @@ use Rattle.message.specs.declared.Kind.the-variants.{None, Fpl, Cpl, Est, Chg, 
 use Rattle.message.specs.declared.Record.{Record}
 use Rattle.compose.specs.Layout.{filled, only, isNil, takesFirst, first, laid}
 use Rattle.compose.specs.Order.{ordered}
-use Rattle.scan.specs.Grammar.{G}
+use Rattle.scan.specs.Grammar.{sizeOf, G}
 use Rattle.reader.specs.Reading.{cut}
 use Rattle.pen.specs.Listed.{spanOf}
 use Rattle.pen.specs.Laying.{join, opening, blocks}
@@ -33,7 +33,7 @@ orderOf Lrm = ordered 76 82 77
 -- THE RECORD'S PARTS, LAID OUT
 
 abbrev pub sizes : Record → ℕ → ℕ
-sizes r k = spanOf r k .len
+sizes r k = sizeOf (spanOf r k)
 
 abbrev pub bytesIn : List ℕ → Record → ℕ → List ℕ
 bytesIn d r k = cut d (spanOf r k)

@@ -14,7 +14,7 @@ use borrow.Author.Tests.{leb-true, lt-ltb, le-ltb, eqb-true, eq-eqb, not-true}
 use Rattle.scan.specs.Bools.{and-l, and-r, or-split, or-l, or-r, neither, known}
 use Rattle.scan.specs.declared.Class.{Class}
 use Rattle.scan.specs.declared.Class.the-variants.{Letter, Digit, Octal, Alnum, Word, Byte, Range, Two, Of}
-use Rattle.scan.specs.Grammar.{all, G, eps, run, words, seq, alt, part, field, Derives, Part, Reads, look}
+use Rattle.scan.specs.Grammar.{span, placeOf, sizeOf, all, G, eps, run, words, seq, alt, part, field, Derives, Part, Reads, look}
 use Rattle.scan.specs.Scanner.{among, occurs}
 use Rattle.scan.specs.Tests.{nullable, names, strange, covers, plain}
 use Rattle.scan.specs.Theory.{null-sound, good-a, good-b}
@@ -161,37 +161,41 @@ pub find-telling : (n : ℕ) (s : List ℕ) (ps : List Part) → find n (telling
 find-telling n s [] = refl
 find-telling n s (p ∷ ps) = ⊎-elim (λ e. rw e) (λ e. rw e (find-telling n s ps)) (known (eqb n (p .name)))
 
-cut-middle : (x w y : List ℕ) → cut (x ++ (w ++ y)) (record { at = length x; len = length w }) ≡ w
-cut-middle x w y = rw (drop-append-seam x (w ++ y)) (take-append-seam w y)
+cut-middle : (x w y : List ℕ) → length w < 65536 → cut (x ++ (w ++ y)) (span (length x) (length w)) ≡ w
+cut-middle x w y h =
+    let a : placeOf (span (length x) (length w)) ≡ length x = omega arith in
+    let b : sizeOf (span (length x) (length w)) ≡ length w = omega arith in
+    (λ i. take (b i) (drop (a i) (x ++ (w ++ y)))) ∙ rw (drop-append-seam x (w ++ y)) (take-append-seam w y)
 
--- w stands in x ++ (w ++ y)
-reads-tells : (g : G) (x w y : List ℕ) (ps : List Part) → Reads g (length x) w ps → Tells g w (telling (x ++ (w ++ y)) ps)
-reads-tells eps x w y ps r = (r .0, ap (telling (x ++ (w ++ y))) (r .1))
-reads-tells (run c lo hi) x w y ps r = (r .0, ap (telling (x ++ (w ++ y))) (r .1))
-reads-tells (words k) x w y ps r = (r .0, ap (telling (x ++ (w ++ y))) (r .1))
-reads-tells (seq a b) x w y ps r =
+-- w, which is no longer than a span can say, stands in x ++ (w ++ y)
+reads-tells : (g : G) (x w y : List ℕ) (ps : List Part) → length w < 65536 → Reads g (length x) w ps → Tells g w (telling (x ++ (w ++ y)) ps)
+reads-tells eps x w y ps h r = (r .0, ap (telling (x ++ (w ++ y))) (r .1))
+reads-tells (run c lo hi) x w y ps h r = (r .0, ap (telling (x ++ (w ++ y))) (r .1))
+reads-tells (words k) x w y ps h r = (r .0, ap (telling (x ++ (w ++ y))) (r .1))
+reads-tells (seq a b) x w y ps h r =
     let u : List ℕ = r .0 in
     let v : List ℕ = r .1 in
     let s : List ℕ = x ++ (w ++ y) in
     let i : x ++ (u ++ (v ++ y)) ≡ s = ap (λ (z : List ℕ). x ++ z) (sym (append-assoc u v y) ∙ ap (λ (z : List ℕ). z ++ y) (sym (r .4))) in
     let j : (x ++ u) ++ (v ++ y) ≡ s = append-assoc x u (v ++ y) ∙ i in
-    let n : length x + length u ≡ length (x ++ u) = sym (length-append x u) in (
+    let n : length x + length u ≡ length (x ++ u) = sym (length-append x u) in
+    let m : length w ≡ length u + length v = ap length (r .4) ∙ length-append u v in (
       u,
       v,
       telling s (r .2),
       telling s (r .3),
       r .4,
       ap (telling s) (r .5) ∙ telling-append s (r .2) (r .3),
-      subst (λ (z : List ℕ). Tells a u (telling z (r .2))) i (reads-tells a x u (v ++ y) (r .2) (r .6)),
-      subst (λ (z : List ℕ). Tells b v (telling z (r .3))) j (reads-tells b (x ++ u) v y (r .3) (subst (λ (k : ℕ). Reads b k v (r .3)) n (r .7))),
+      subst (λ (z : List ℕ). Tells a u (telling z (r .2))) i (reads-tells a x u (v ++ y) (r .2) (omega arith) (r .6)),
+      subst (λ (z : List ℕ). Tells b v (telling z (r .3))) j (reads-tells b (x ++ u) v y (r .3) (omega arith) (subst (λ (k : ℕ). Reads b k v (r .3)) n (r .7))),
     )
-reads-tells (alt a b) x w y ps r = ⊎-elim (λ l. inl (reads-tells a x w y ps l)) (λ l. inr (reads-tells b x w y ps l)) r
-reads-tells (part n g) x w y ps r = (r .0, ap (telling (x ++ (w ++ y))) (r .1) ∙ (λ i. record { name = n; its = cut-middle x w y i } ∷ []))
-reads-tells (field ns g) x w y ps r = reads-tells g x w y ps r
+reads-tells (alt a b) x w y ps h r = ⊎-elim (λ l. inl (reads-tells a x w y ps h l)) (λ l. inr (reads-tells b x w y ps h l)) r
+reads-tells (part n g) x w y ps h r = (r .0, ap (telling (x ++ (w ++ y))) (r .1) ∙ (λ i. record { name = n; its = cut-middle x w y h i } ∷ []))
+reads-tells (field ns g) x w y ps h r = reads-tells g x w y ps h r
 
 -- the parts of a whole text say this
-pub reading-tells : (g : G) (w : List ℕ) (ps : List Part) → Reads g 0 w ps → Tells g w (telling w ps)
-reading-tells g w ps r = subst (λ (z : List ℕ). Tells g w (telling z ps)) (append-nil w) (reads-tells g [] w [] ps r)
+pub reading-tells : (g : G) (w : List ℕ) (ps : List Part) → length w < 65536 → Reads g 0 w ps → Tells g w (telling w ps)
+reading-tells g w ps h r = subst (λ (z : List ℕ). Tells g w (telling z ps)) (append-nil w) (reads-tells g [] w [] ps h r)
 
 pub tells-derives : (g : G) (w : List ℕ) (cs : List Told) → Tells g w cs → Derives g w
 tells-derives eps w cs r = r .0

@@ -3,22 +3,23 @@ use mathlib.Core.Path.{_≡_, refl, sym, ap, _∙_, subst}
 use mathlib.Core.Logic.{_⊎_, inl, inr, ⊎-elim}
 use mathlib.Core.Bool.{Bool, true, false, cond, false≢true}
 use mathlib.Core.List.{List, [], _∷_, _++_}
-use Prim.Native.Nat.{ℕ, _+_, _≤_}
+use Prim.Native.Nat.{ℕ, _+_, _≤_, _<_}
 use native.Mathlib.Omega.{arith}
 use lib.ListN.{length, take, drop, length-drop}
 use lib.Seq.{length-take-le}
 use lib.Dec.{eqb}
 use borrow.Author.Tests.{eqb-true}
 use Rattle.scan.specs.Bools.{neither, known}
-use Rattle.scan.specs.declared.Span.{Span}
-use Rattle.scan.specs.Grammar.{G, eps, Derives, Part, none, look}
+use Rattle.scan.specs.Grammar.{placeOf, sizeOf, Span, G, eps, Derives, Part, none, look}
 use Rattle.scan.specs.Texts.{byte, lit}
 use Rattle.scan.specs.declared.Class.the-variants.{Byte}
 use Rattle.scan.specs.Scanner.{among, occurs}
 use Rattle.scan.specs.Tests.{nullable, clear, apart, fixed, heads, differ, offLeaf, off, names, strange, covers, plain}
-use Rattle.scan.specs.Parts.{named, covers-sound, part-within}
+use Rattle.scan.specs.Parts.{named, covers-sound, reads-derives, part-within}
+use Rattle.scan.specs.Bounds.{derives-short}
 use Rattle.fields.specs.Fields.{inNumbered, in07, in08, counted, in09, in10, hour, minute, timed, in13, in13o, level3, level4, levelled, bearing, bearingFrom, degrees, minutes, pointed, in14, after15, in15, alternates, in16, inThree18, inFour18, in18}
 use Rattle.types.specs.Messages.{message, fpl, cpl, est, chg, cnl, rti, rta, rla, lam, lrm}
+use Rattle.types.specs.Sound.{message-longest}
 use Rattle.types.specs.Picking.{lettersAs, lettersOf}
 use Rattle.message.specs.declared.Kind.{Kind}
 use Rattle.message.specs.declared.Kind.the-variants.{None, Fpl, Cpl, Est, Chg, Cnl, Rti, Rta, Rla, Lam, Lrm}
@@ -189,9 +190,9 @@ look-off (p ∷ ps) k e = let h = neither (eqb k (p .name)) (among k (namesIn ps
 pub nameless : (r : Record) (k : ℕ) → among k partNames ≡ false → spanOf r k ≡ none
 nameless r k e = look-off (partsIn (r .parts)) k e
 
-pub cut-size : (d : List ℕ) (p : Span) → Inside d p → length (cut d p) ≡ p .len
-cut-size d p (inl e) = ap (λ (m : ℕ). length (take m (drop (p .at) d))) e ∙ sym e
-cut-size d p (inr h) = length-take-le (p .len) (drop (p .at) d) (omega (arith, length-drop (p .at) d))
+pub cut-size : (d : List ℕ) (p : Span) → Inside d p → length (cut d p) ≡ sizeOf p
+cut-size d p (inl e) = ap (λ (m : ℕ). length (take m (drop (placeOf p) d))) e ∙ sym e
+cut-size d p (inr h) = length-take-le (sizeOf p) (drop (placeOf p) d) (omega (arith, length-drop (placeOf p) d))
 
 -- WHAT A READ TEXT'S RECORD SAYS
 
@@ -201,7 +202,9 @@ module _ (w : List ℕ) (q : Record) (j : Judged w Read q) where
   its = telling w (j .0)
 
   pub its-order : Sorted w its
-  its-order = sorted w its (reading-tells message w (j .0) (j .1))
+  its-order =
+      let h : length w < 65536 = omega (arith, derives-short message w (reads-derives message 0 w (j .0) (j .1)), message-longest) in
+      sorted w its (reading-tells message w (j .0) h (j .1))
 
   pub its-kind : q .kind ≡ kindOf (lettersOf w)
   its-kind = ap (λ (x : Record). x .kind) (j .2)
@@ -225,15 +228,15 @@ module _ (w : List ℕ) (q : Record) (j : Judged w Read q) where
       (known (among k partNames))
 
   -- and it lies within the text
-  pub its-within : (k : ℕ) → spanOf q k .at + spanOf q k .len ≤ length w
+  pub its-within : (k : ℕ) → placeOf (spanOf q k) + sizeOf (spanOf q k) ≤ length w
   its-within k =
       ⊎-elim
-      (λ e. subst (λ (p : Span). p .at + p .len ≤ length w) (sym (its-span k e)) (part-within message w (j .0) k (j .1)))
-      (λ e. subst (λ (p : Span). p .at + p .len ≤ length w) (sym (nameless q k e)) (omega arith))
+      (λ e. subst (λ (p : Span). placeOf p + sizeOf p ≤ length w) (sym (its-span k e)) (part-within message w (j .0) k (j .1)))
+      (λ e. subst (λ (p : Span). placeOf p + sizeOf p ≤ length w) (sym (nameless q k e)) (omega arith))
       (known (among k partNames))
 
   pub its-inside : (k : ℕ) → Inside w (spanOf q k)
   its-inside k = inr (its-within k)
 
-  pub its-size : (k : ℕ) → spanOf q k .len ≡ length (find k its)
+  pub its-size : (k : ℕ) → sizeOf (spanOf q k) ≡ length (find k its)
   its-size k = sym (cut-size w (spanOf q k) (its-inside k)) ∙ ap length (its-bytes k)

@@ -9,7 +9,7 @@ use lib.ListN.{length, getD, take, drop, length-drop}
 use lib.Seq.{length-take-le}
 use lib.Dec.{eqb}
 use borrow.Author.Tests.{eqb-true, ne-eqb}
-use Rattle.scan.specs.declared.Span.{Span}
+use Rattle.scan.specs.Grammar.{placeOf, sizeOf, Span}
 use Rattle.fields.specs.Names as n
 use Rattle.message.specs.declared.Kind.{Kind}
 use Rattle.message.specs.declared.Kind.the-variants.{None, Fpl, Cpl, Est, Chg, Cnl, Rti, Rta, Rla, Lam, Lrm}
@@ -28,7 +28,7 @@ use Rattle.deeds.specs.Deeds.{inOrder, turned, rtaDeed, deedBy, orHeld, 
 -- THE PARTS OF A MESSAGE THAT WAS READ lie within its text
 
 abbrev pub Within : List ℕ → Span → Type 0
-Within w p = p .at + p .len ≤ length w
+Within w p = placeOf p + sizeOf p ≤ length w
 
 module _ (w : List ℕ) (r : Record) (j : Judged w Read r) where
   pub sender-in : Within w (r .parts .number .sender)
@@ -71,11 +71,11 @@ same-on e p q = e ∙ (λ k. same (p k) (q k))
 
 -- A PART IS GIVEN exactly where it has a length
 
-cut-none : (w : List ℕ) (p : Span) → p .len ≡ 0 → cut w p ≡ []
-cut-none w p e = ap (λ (k : ℕ). take k (drop (p .at) w)) e
+cut-none : (w : List ℕ) (p : Span) → sizeOf p ≡ 0 → cut w p ≡ []
+cut-none w p e = ap (λ (k : ℕ). take k (drop (placeOf p) w)) e
 
-cut-some : (w : List ℕ) (p : Span) → Within w p → (p .len ≡ 0 → ⊥) → length (cut w p) ≡ 0 → ⊥
-cut-some w p i h e = h (sym (length-take-le (p .len) (drop (p .at) w) (omega (arith, i, length-drop (p .at) w))) ∙ e)
+cut-some : (w : List ℕ) (p : Span) → Within w p → (sizeOf p ≡ 0 → ⊥) → length (cut w p) ≡ 0 → ⊥
+cut-some w p i h e = h (sym (length-take-le (sizeOf p) (drop (placeOf p) w) (omega (arith, i, length-drop (placeOf p) w))) ∙ e)
 
 or-some : (c h : List ℕ) → (length c ≡ 0 → ⊥) → c ≡ orHeld c h
 unfolding orHeld
@@ -88,18 +88,18 @@ fits-some [] h e = absurd (e refl)
 fits-some (x ∷ c) h e = refl
 
 module _ (w : List ℕ) (p : Span) (h : List ℕ) where
-  pub none-given : p .len ≡ 0 → h ≡ orHeld (cut w p) h
+  pub none-given : sizeOf p ≡ 0 → h ≡ orHeld (cut w p) h
   unfolding orHeld
   none-given e = sym (ap (λ (c : List ℕ). orHeld c h) (cut-none w p e))
 
-  pub one-given : Within w p → (p .len ≡ 0 → ⊥) → cut w p ≡ orHeld (cut w p) h
+  pub one-given : Within w p → (sizeOf p ≡ 0 → ⊥) → cut w p ≡ orHeld (cut w p) h
   one-given i e = or-some (cut w p) h (cut-some w p i e)
 
-  pub no-code : p .len ≡ 0 → true ≡ codeFits (cut w p) h
+  pub no-code : sizeOf p ≡ 0 → true ≡ codeFits (cut w p) h
   unfolding codeFits
   no-code e = sym (ap (λ (c : List ℕ). codeFits c h) (cut-none w p e))
 
-  pub code-given : Within w p → (p .len ≡ 0 → ⊥) → same (cut w p) h ≡ codeFits (cut w p) h
+  pub code-given : Within w p → (sizeOf p ≡ 0 → ⊥) → same (cut w p) h ≡ codeFits (cut w p) h
   code-given i e = fits-some (cut w p) h (cut-some w p i e)
 
 -- WHICH DEED IT IS

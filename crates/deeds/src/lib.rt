@@ -4,6 +4,7 @@ ghost use mathlib.Core.Bool.{_&&_};
 ghost use Prim.Native.Nat.{_+_, _≤_, _<_};
 ghost use lib.ListN.{length, getD};
 ghost use lib.Dec.{eqb};
+ghost use Rattle.scan.specs.Grammar.{placeOf, sizeOf};
 ghost use Rattle.reader.specs.Reading.{cut, Judged};
 ghost use Rattle.message.specs.declared.Verdict.the-variants.{Read};
 ghost use Rattle.flights.specs.Flight.{flightOf};
@@ -42,16 +43,16 @@ pub enum Decision {
 
 // The bytes of a part.
 fn part(w: &[u8], p: Span) -> &[u8]
-    requires { ⌜ p .at + p .len ≤ length (now w) ⌝ }
+    requires { ⌜ placeOf p + sizeOf p ≤ length (now w) ⌝ }
     ensures { λ r. ⌜ now r ≡ cut (now (w .entry)) p ⌝ }
 {
-    let at = p.at as usize;
-    &w[at..at + p.len as usize]
+    let at = (p / 65536) as usize;
+    &w[at..at + (p % 65536) as usize]
 }
 
 // Whether two parts say the same.
 fn same_part(w: &[u8], a: Span, b: Span) -> bool
-    requires { ⌜ (a .at + a .len ≤ length (now w)) × (b .at + b .len ≤ length (now w)) ⌝ }
+    requires { ⌜ (placeOf a + sizeOf a ≤ length (now w)) × (placeOf b + sizeOf b ≤ length (now w)) ⌝ }
     ensures { λ r. ⌜ r ≡ same (cut (now (w .entry)) a) (cut (now (w .entry)) b) ⌝ }
 {
     places::same(part(w, a), part(w, b))
@@ -130,10 +131,10 @@ pub fn makes(d: Deed) -> bool
 
 // A part of a field 22 where it is given, else the message's own.
 fn or_own(w: &[u8], c: Span, own: Span) -> &[u8]
-    requires { ⌜ (c .at + c .len ≤ length (now w)) × (own .at + own .len ≤ length (now w)) ⌝ }
+    requires { ⌜ (placeOf c + sizeOf c ≤ length (now w)) × (placeOf own + sizeOf own ≤ length (now w)) ⌝ }
     ensures { λ r. ⌜ now r ≡ orHeld (cut (now (w .entry)) c) (cut (now (w .entry)) own) ⌝ }
 {
-    if c.len == 0 {
+    if c % 65536 == 0 {
         return part(w, own);
     }
     part(w, c)
@@ -197,7 +198,7 @@ fn code_fits(b: &[u8], w: &[u8], r: Record) -> bool
     ensures { λ x. ⌜ x ≡ codeFits (messageOf (now (w .entry)) r .own .code) (flightOf (now (b .entry)) .code) ⌝ }
 {
     let c = r.parts.own.code;
-    if c.len == 0 {
+    if c % 65536 == 0 {
         return true;
     }
     places::same(part(w, c), flights::text_at(b, 13, 4))

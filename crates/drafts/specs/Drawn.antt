@@ -2,12 +2,12 @@
 use mathlib.Core.Path.{_≡_, refl, sym, _∙_, subst}
 use mathlib.Core.Bool.{Bool, true, false, cond}
 use mathlib.Core.List.{List, [], _∷_, _++_}
-use Prim.Native.Nat.{ℕ, _+_, _/_, _%_, _≤_}
+use Prim.Native.Nat.{ℕ, _+_, _/_, _%_, _≤_, _<_}
 use native.Mathlib.Omega.{arith}
 use lib.ListN.{length, take, getD}
 use lib.Dec.{eqb}
 use Rattle.scan.specs.Bools.{Decides, decides-as}
-use Rattle.scan.specs.declared.Span.{Span}
+use Rattle.scan.specs.Grammar.{span, sizeOf, Span}
 use Rattle.fields.specs.Names as name
 use Rattle.message.specs.declared.Record.{Record}
 use Rattle.pen.specs.declared.Pen.{Pen}
@@ -17,7 +17,7 @@ use Rattle.writer.specs.Comparing.{Back}
 use Rattle.writer.specs.Written.{breaks-laid, breaks-back, text-back, laid-fits, laid-size}
 use Rattle.drafts.specs.declared.Drafting.the-variants.{Written, BreaksRule}
 use Rattle.drafts.specs.Draft.{digits, figuresAs, Draws}
-use Rattle.drafts.specs.Moved.{numberBytes, whole, span, movedRecord, otherParts, moved-len, drafted-written, written-drafted, adds-moved}
+use Rattle.drafts.specs.Moved.{numberBytes, whole, movedRecord, otherParts, moved-len, drafted-written, written-drafted, adds-moved}
 
 -- THE BYTES OF A NUMBER
 
@@ -53,10 +53,10 @@ held n r = record {
 }
 
 module _ (ours partners : List ℕ) (n : ℕ) (f : length ours ≡ 4) (g : length partners ≡ 4) (r : Record) where
-  by-name : (x y z : Bool) (p q : Span) → q .len ≡ p .len → cond x (span 0 4) (cond y (span 0 4) (cond z (span 0 3) p)) .len ≡ cond x (span 0 (length ours)) (cond y (span (length ours) (length partners)) (cond z (span (length ours + length partners) 3) q)) .len
-  by-name true y z p q e = sym f
-  by-name false true z p q e = sym g
-  by-name false false true p q e = refl
+  by-name : (x y z : Bool) (p q : Span) → sizeOf q ≡ sizeOf p → sizeOf (cond x (span 0 4) (cond y (span 0 4) (cond z (span 0 3) p))) ≡ sizeOf (cond x (span 0 (length ours)) (cond y (span (length ours) (length partners)) (cond z (span (length ours + length partners) 3) q)))
+  by-name true y z p q e = omega arith
+  by-name false true z p q e = omega arith
+  by-name false false true p q e = omega arith
   by-name false false false p q e = sym e
 
   held-sizes : (k : ℕ) → sizes (held n r) k ≡ sizes (movedRecord ours partners n r) k
@@ -70,19 +70,25 @@ module _ (ours partners : List ℕ) (n : ℕ) (f : length ours ≡ 4) (g : lengt
 
 -- THE STEPS: a text was laid out under a number in a buffer of 1077 bytes
 
-module _ (ours partners : List ℕ) (n : ℕ) (d : List ℕ) (r : Record) (t₀ t m : List ℕ) (p : Pen) (z : length t₀ ≡ 1077) (e : m ≡ numberBytes ours partners n) (a : Adds d t₀ start (opening (r .kind) ∷ m ∷ restBlocks d (r .parts)) (restSpans (r .parts)) t p) where
+module _ (ours partners : List ℕ) (n : ℕ) (d : List ℕ) (r : Record) (t₀ t m : List ℕ) (p : Pen) (z : length t₀ ≡ 1077) (f : length ours ≡ 4) (g : length partners ≡ 4) (e : m ≡ numberBytes ours partners n) (a : Adds d t₀ start (opening (r .kind) ∷ m ∷ restBlocks d (r .parts)) (restSpans (r .parts)) t p) where
   abbrev d′ : List ℕ
   d′ = whole ours partners n d
 
   abbrev r′ : Record
   r′ = movedRecord ours partners n r
 
+  short : length ours < 65536
+  short = omega arith
+
+  short′ : length partners < 65536
+  short′ = omega arith
+
   laid : Adds d′ t₀ start (blocks (opening (r .kind)) d′ (r′ .parts)) (spans (r′ .parts)) t p
-  laid = adds-moved ours partners n d (opening (r .kind)) (r .parts) (subst (λ (x : List ℕ). Adds d t₀ start (opening (r .kind) ∷ x ∷ restBlocks d (r .parts)) (restSpans (r .parts)) t p) e a)
+  laid = adds-moved ours partners n d short short′ (opening (r .kind)) (r .parts) (subst (λ (x : List ℕ). Adds d t₀ start (opening (r .kind) ∷ x ∷ restBlocks d (r .parts)) (restSpans (r .parts)) t p) e a)
 
   -- it did not fit, or a part lies outside
   pub unlaid : p .ok ≡ false → Draws ours partners n d r t₀ BreaksRule t
-  unlaid o = (λ w x. breaks-laid d′ r′ t₀ t p z laid o w (drafted-written ours partners n d r w x), a .size)
+  unlaid o = (λ w x. breaks-laid d′ r′ t₀ t p z laid o w (drafted-written ours partners n d short short′ r w x), a .size)
 
   module _ (o : p .ok ≡ true) where
     pub draft-fits : p .at ≤ length t
@@ -91,16 +97,16 @@ module _ (ours partners : List ℕ) (n : ℕ) (d : List ℕ) (r : Record) (t₀ 
     pub draft-size : length (take (p .at) t) ≡ p .at
     draft-size = laid-size d′ r′ t₀ t p z laid o
 
-    module _ (f : length ours ≡ 4) (g : length partners ≡ 4) (q : Record) (u : q ≡ held n r) (b : Bool) (y : Decides b (Back (take (p .at) t) q)) where
+    module _ (q : Record) (u : q ≡ held n r) (b : Bool) (y : Decides b (Back (take (p .at) t) q)) where
       reads : Decides b (Back (take (p .at) t) r′)
       reads = held-back ours partners n f g r (take (p .at) t) b (subst (λ (x : Record). Decides b (Back (take (p .at) t) x)) u y)
 
       -- it does not read back as the record
       pub unread : b ≡ false → Draws ours partners n d r t₀ BreaksRule t
-      unread h = (λ w x. breaks-back d′ r′ t₀ t p z laid o b reads h w (drafted-written ours partners n d r w x), a .size)
+      unread h = (λ w x. breaks-back d′ r′ t₀ t p z laid o b reads h w (drafted-written ours partners n d short short′ r w x), a .size)
 
       -- it does
       pub drawn : b ≡ true → Draws ours partners n d r t₀ (Written (p .at)) t
       drawn h =
           let w : List ℕ = take (p .at) t in
-          (w, written-drafted ours partners n d r w (text-back d′ r′ t₀ t p z laid o b reads h), sym draft-size, omega (arith, draft-fits, a .size, z), refl, a .size)
+          (w, written-drafted ours partners n d short short′ r w (text-back d′ r′ t₀ t p z laid o b reads h), sym draft-size, omega (arith, draft-fits, a .size, z), refl, a .size)

@@ -6,12 +6,11 @@ use mathlib.Core.Bool.{Bool, true, false, cond, _||_}
 use mathlib.Core.List.{List, [], _∷_, _++_}
 use Prim.Native.Nat.{ℕ, _+_, _<_}
 use native.Mathlib.Omega.{arith}
-use lib.ListN.{length, take, drop, length-append}
+use lib.ListN.{length, take, drop, length-append, length-take}
 use lib.Seq.{take-append-seam, drop-append-seam, drop-append-add}
 use lib.Dec.{eqb}
 use Rattle.scan.specs.Bools.{neither}
-use Rattle.scan.specs.declared.Span.{Span}
-use Rattle.scan.specs.Grammar.{Part, look}
+use Rattle.scan.specs.Grammar.{span, placeOf, sizeOf, Span, Part, look}
 use Rattle.fields.specs.Names as name
 use Rattle.changes.specs.declared.Plan.{Plan}
 use Rattle.types.specs.declared.Number.{Number}
@@ -22,7 +21,7 @@ use Rattle.reader.specs.Reading.{cut}
 use Rattle.pen.specs.declared.Pen.{Pen}
 use Rattle.pen.specs.Listed.{numberParts, planParts, restParts, spanOf, Inside}
 use Rattle.pen.specs.Laying.{restBlocks, restSpans, blocks, spans, join, AllInside, Stands, Adds}
-use Rattle.writer.specs.Writing.{contentOf, Writes}
+use Rattle.writer.specs.Writing.{Content, contentOf, Writes}
 use Rattle.writer.specs.Written.{one-text}
 use Rattle.drafts.specs.Draft.{digits, ofNumber, figuresAs, numbered, Drafted}
 
@@ -36,12 +35,9 @@ numberBytes ours partners n = ours ++ (47 ∷ (partners ++ digits n))
 abbrev pub whole : List ℕ → List ℕ → ℕ → List ℕ → List ℕ
 whole ours partners n d = ours ++ (partners ++ (digits n ++ d))
 
-abbrev pub span : ℕ → ℕ → Span
-span at len = record { at = at; len = len }
-
 -- a part behind the number
 abbrev pub moved : List ℕ → List ℕ → Span → Span
-moved ours partners p = span (length ours + (length partners + (3 + p .at))) (p .len)
+moved ours partners p = span (length ours + (length partners + (3 + placeOf p))) (sizeOf p)
 
 abbrev pub movedNumber : List ℕ → List ℕ → Number → Number
 movedNumber ours partners p = record { sender = moved ours partners (p .sender); receiver = moved ours partners (p .receiver); digits = moved ours partners (p .digits) }
@@ -114,15 +110,15 @@ others k s c e ps h =
     let y = neither (eqb k name.receiver) (eqb k name.number) (x .1) in
     rw (x .0, y .0, y .1)
 
-pub moved-len : (ours partners : List ℕ) (k : ℕ) (ps : List Part) → look k (allMoved ours partners ps) .len ≡ look k ps .len
+pub moved-len : (ours partners : List ℕ) (k : ℕ) (ps : List Part) → sizeOf (look k (allMoved ours partners ps)) ≡ sizeOf (look k ps)
 moved-len ours partners k [] = refl
 moved-len ours partners k (p ∷ ps) = go (eqb k (p .name)) (moved-len ours partners k ps)
   where
-    go : (t : Bool) → look k (allMoved ours partners ps) .len ≡ look k ps .len → cond t (moved ours partners (p .span)) (look k (allMoved ours partners ps)) .len ≡ cond t (p .span) (look k ps) .len
-    go true e = refl
+    go : (t : Bool) → sizeOf (look k (allMoved ours partners ps)) ≡ sizeOf (look k ps) → sizeOf (cond t (moved ours partners (p .span)) (look k (allMoved ours partners ps))) ≡ sizeOf (cond t (p .span) (look k ps))
+    go true e = omega arith
     go false e = e
 
-module _ (ours partners : List ℕ) (n : ℕ) (d : List ℕ) where
+module _ (ours partners : List ℕ) (n : ℕ) (d : List ℕ) (f : length ours < 65536) (g : length partners < 65536) where
   abbrev d′ : List ℕ
   d′ = whole ours partners n d
 
@@ -130,18 +126,31 @@ module _ (ours partners : List ℕ) (n : ℕ) (d : List ℕ) where
   unfolding digits
   skip m = drop-append-add ours (partners ++ (digits n ++ d)) (length partners + (3 + m)) ∙ drop-append-add partners (digits n ++ d) (3 + m) ∙ drop-append-add (digits n) d m
 
+  place-moved : (p : Span) → placeOf (moved ours partners p) ≡ length ours + (length partners + (3 + placeOf p))
+  place-moved p = omega arith
+
+  size-moved : (p : Span) → sizeOf (moved ours partners p) ≡ sizeOf p
+  size-moved p = omega arith
+
   cut-moved : (p : Span) → cut d′ (moved ours partners p) ≡ cut d p
-  cut-moved p = ap (take (p .len)) (skip (p .at))
+  cut-moved p = (λ i. take (size-moved p i) (drop (place-moved p i) d′)) ∙ ap (take (sizeOf p)) (skip (placeOf p))
+
+  -- what a place and a length say together
+  cut-span : (at k : ℕ) → k < 65536 → cut d′ (span at k) ≡ take k (drop at d′)
+  cut-span at k h =
+      let a : placeOf (span at k) ≡ at = omega arith in
+      let b : sizeOf (span at k) ≡ k = omega arith in
+      λ i. take (b i) (drop (a i) d′)
 
   cut-sender : cut d′ (span 0 (length ours)) ≡ ours
-  cut-sender = take-append-seam ours (partners ++ (digits n ++ d))
+  cut-sender = cut-span 0 (length ours) f ∙ take-append-seam ours (partners ++ (digits n ++ d))
 
   cut-receiver : cut d′ (span (length ours) (length partners)) ≡ partners
-  cut-receiver = ap (take (length partners)) (drop-append-seam ours (partners ++ (digits n ++ d))) ∙ take-append-seam partners (digits n ++ d)
+  cut-receiver = cut-span (length ours) (length partners) g ∙ ap (take (length partners)) (drop-append-seam ours (partners ++ (digits n ++ d))) ∙ take-append-seam partners (digits n ++ d)
 
   cut-digits : cut d′ (span (length ours + length partners) 3) ≡ digits n
   unfolding digits
-  cut-digits = ap (take 3) (drop-append-add ours (partners ++ (digits n ++ d)) (length partners) ∙ drop-append-seam partners (digits n ++ d))
+  cut-digits = cut-span (length ours + length partners) 3 (omega arith) ∙ ap (take 3) (drop-append-add ours (partners ++ (digits n ++ d)) (length partners) ∙ drop-append-seam partners (digits n ++ d))
 
   cut-look : (k : ℕ) (ps : List Part) → cut d′ (look k (allMoved ours partners ps)) ≡ cut d (look k ps)
   cut-look k [] = refl
@@ -174,10 +183,10 @@ module _ (ours partners : List ℕ) (n : ℕ) (d : List ℕ) where
   size-whole = omega (arith, length-append ours (partners ++ (digits n ++ d)), length-append partners (digits n ++ d), length-append (digits n) d)
 
   inside-moved : (p : Span) → Inside d p → Inside d′ (moved ours partners p)
-  inside-moved p = ⊎-elim inl (λ h. inr (omega (arith, size-whole)))
+  inside-moved p = ⊎-elim (λ h. inl (omega arith)) (λ h. inr (omega (arith, size-whole)))
 
   inside-back : (p : Span) → Inside d′ (moved ours partners p) → Inside d p
-  inside-back p = ⊎-elim inl (λ h. inr (omega (arith, size-whole)))
+  inside-back p = ⊎-elim (λ h. inl (omega arith)) (λ h. inr (omega (arith, size-whole)))
 
   inside-look : (k : ℕ) (ps : List Part) → Inside d (look k ps) → Inside d′ (look k (allMoved ours partners ps))
   inside-look k [] h = inl refl
@@ -225,10 +234,6 @@ module _ (ours partners : List ℕ) (n : ℕ) (d : List ℕ) where
   pub written-drafted : (r : Record) (w : List ℕ) → Writes (whole ours partners n d) (movedRecord ours partners n r) w → Drafted ours partners n d r w
   written-drafted r w x = record { inside = all-out r (x .inside); its = x .its; read = x .read; says = x .says ∙ says-numbered r }
 
-  -- what a record says has one text under a number
-  pub drafted-one : (r : Record) (w v : List ℕ) → Drafted ours partners n d r w → Drafted ours partners n d r v → w ≡ v
-  drafted-one r w v x y = one-text d′ (movedRecord ours partners n r) w v (drafted-written r w x) (drafted-written r v y)
-
   -- ITS BLOCKS
 
   all-moved : (qs : List Span) → AllInside d qs → AllInside d′ (movedSpans ours partners qs)
@@ -240,7 +245,7 @@ module _ (ours partners : List ℕ) (n : ℕ) (d : List ℕ) where
   all-back (q ∷ qs) h = (inside-back q (h .0), all-back qs (h .1))
 
   rest-moved : (p : Parts) → restBlocks d′ (movedParts ours partners p) ≡ restBlocks d p
-  rest-moved p = simp skip
+  rest-moved p = simp (place-moved, size-moved, skip)
 
   blocks-moved : (opening : List ℕ) (p : Parts) → opening ∷ numberBytes ours partners n ∷ restBlocks d p ≡ blocks opening d′ (movedParts ours partners p)
   unfolding numberBytes
@@ -255,3 +260,15 @@ module _ (ours partners : List ℕ) (n : ℕ) (d : List ℕ) where
     on = λ w h o. subst (λ (z : List (List ℕ)). Stands e y (w ++ join z)) (blocks-moved opening p) (a .on w h o);
     off = λ w h o i m. subst (λ (z : List (List ℕ)). length t < length (w ++ join z)) (blocks-moved opening p) (a .off w h o (all-back (restSpans p) (i .1 .1 .1)) m);
   }
+
+-- the names stand in the text, so they are no longer than a span can say
+part-short : (w x : List ℕ) (p : Span) → cut w p ≡ x → length x < 65536
+part-short w x p e = omega (arith, ap length e, length-take (sizeOf p) (drop (placeOf p) w))
+
+-- what a record says has one text under a number
+pub drafted-one : (ours partners : List ℕ) (n : ℕ) (d : List ℕ) (r : Record) (w v : List ℕ) → Drafted ours partners n d r w → Drafted ours partners n d r v → w ≡ v
+unfolding numbered
+drafted-one ours partners n d r w v x y =
+    let f = part-short w ours (spanOf (x .its) name.sender) (ap (λ (c : Content). c .bytes name.sender) (x .says)) in
+    let g = part-short w partners (spanOf (x .its) name.receiver) (ap (λ (c : Content). c .bytes name.receiver) (x .says)) in
+    one-text (whole ours partners n d) (movedRecord ours partners n r) w v (drafted-written ours partners n d f g r w x) (drafted-written ours partners n d f g r v y)

@@ -6,7 +6,6 @@ ghost use Rattle.drafts.specs.Draft.{Draws};
 ghost use Rattle.drafts.specs.Moved.{numberBytes};
 ghost use Rattle.drafts.specs.Drawn.{held};
 use message::Record;
-use scan::Span;
 use types::Number;
 
 // What becomes of a record: its text, of this length, is in the buffer; or no text says it.
@@ -43,11 +42,10 @@ fn number_bytes(ours: &[u8], partners: &[u8], n: usize) -> [u8; 12]
 fn with_number(r: Record, n: usize) -> Record
     ensures { λ q. ⌜ q ≡ held n r ⌝ }
 {
-    let unit = Span { at: 0, len: 4 };
     let number = Number {
-        sender: unit,
-        receiver: unit,
-        digits: Span { at: 0, len: 3 },
+        sender: 4,
+        receiver: 4,
+        digits: 3,
     };
     let mut parts = r.parts;
     parts.number = number;

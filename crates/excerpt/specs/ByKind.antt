@@ -6,7 +6,7 @@ use Prim.Native.Nat.{ℕ}
 use native.Mathlib.Omega.{arith}
 use lib.ListN.{length}
 use Rattle.scan.specs.declared.Class.the-variants.{Letter, Octal, Alnum}
-use Rattle.scan.specs.Grammar.{G, run, part, Derives}
+use Rattle.scan.specs.Grammar.{sizeOf, G, run, part, Derives}
 use Rattle.scan.specs.Texts.{opt}
 use Rattle.scan.specs.Scanner.{among, occurs}
 use Rattle.scan.specs.Tests.{nullable, clear, apart, fixed, heads, differ, offLeaf, off, names, strange, covers, plain}
@@ -146,7 +146,7 @@ module _ (w : List ℕ) (r : Record) (j : Judged w Read r) (k : Kind) (e : r .ki
   sure-part m g i y = derived (m ∷ []) (typeOf k) (part m g) (part m g) (type-plain k) i same y w (its w r j) in-type (sizes r) (bytesIn w r) (its-size w r j) (its-bytes w r j)
 
   -- a part that the type never has
-  no-part : (m : ℕ) → occurs m (typeOf k) ≡ false → spanOf r m .len ≡ 0
+  no-part : (m : ℕ) → occurs m (typeOf k) ≡ false → sizeOf (spanOf r m) ≡ 0
   no-part m o = its-size w r j m ∙ ap length (absent-part m (typeOf k) (type-plain k) w (its w r j) o in-type)
 
   no-bytes : (m : ℕ) → occurs m (typeOf k) ≡ false → cut w (spanOf r m) ≡ []
@@ -184,9 +184,9 @@ module _ (w : List ℕ) (r : Record) (j : Judged w Read r) (k : Kind) (e : r .ki
   no-estimate : strange estimateParts (typeOf k) ≡ true → field14Of w (r .parts .estimate) ≡ []
   unfolding among
   no-estimate s =
-      let l : (m : ℕ) → among m estimateParts ≡ true → spanOf r m .len ≡ 0 = λ m h. no-part m (strange-sound estimateParts (typeOf k) s m h) in
+      let l : (m : ℕ) → among m estimateParts ≡ true → sizeOf (spanOf r m) ≡ 0 = λ m h. no-part m (strange-sound estimateParts (typeOf k) s m h) in
       let e = r .parts .estimate in
-      none-given (e .point .len ∷ e .over .len ∷ e .crossing .len ∷ e .second .len ∷ e .sense .len ∷ []) _ (omega (arith, l 64 refl, l 65 refl, l 66 refl, l 67 refl, l 68 refl))
+      none-given (sizeOf (e .point) ∷ sizeOf (e .over) ∷ sizeOf (e .crossing) ∷ sizeOf (e .second) ∷ sizeOf (e .sense) ∷ []) _ (omega (arith, l 64 refl, l 65 refl, l 66 refl, l 67 refl, l 68 refl))
 
   -- THE REST OF FIELD 16
   no-rest16 : strange restParts (typeOf k) ≡ true → textsOf w (r .parts .own) .rest16 ≡ []
@@ -195,7 +195,7 @@ module _ (w : List ℕ) (r : Record) (j : Judged w Read r) (k : Kind) (e : r .ki
       let o : (m : ℕ) → among m restParts ≡ true → occurs m (typeOf k) ≡ false = strange-sound restParts (typeOf k) s in
       let p = r .parts .own in
       let x : ledBy [] w (p .elapsed) ≡ [] = own-part w (p .elapsed) ∙ no-bytes n.elapsed (o n.elapsed refl) in
-      let y : textAlternates w (p .alternate) (p .alternate2) ≡ [] = none-given (p .alternate .len ∷ p .alternate2 .len ∷ []) _ (omega (arith, no-part 17 (o 17 refl), no-part 18 (o 18 refl))) in
+      let y : textAlternates w (p .alternate) (p .alternate2) ≡ [] = none-given (sizeOf (p .alternate) ∷ sizeOf (p .alternate2) ∷ []) _ (omega (arith, no-part 17 (o 17 refl), no-part 18 (o 18 refl))) in
       λ i. x i ++ y i
 
 -- BY TYPE

@@ -9,9 +9,8 @@ use lib.ListN.{length, take, drop}
 use lib.Dec.{leb}
 use borrow.Author.Tests.{leb-true}
 use Rattle.scan.specs.Bools.{known}
-use Rattle.scan.specs.declared.Span.{Span}
 use Rattle.scan.specs.declared.Class.the-variants.{Letter, Octal, Alnum}
-use Rattle.scan.specs.Grammar.{G, run, Derives}
+use Rattle.scan.specs.Grammar.{Span, G, run, Derives}
 use Rattle.scan.specs.Texts.{opt}
 use Rattle.scan.specs.Tests.{longest}
 use Rattle.scan.specs.Bounds.{derives-short}

@@ -10,9 +10,8 @@ use lib.Seq.{getD-take, getD-drop}
 use lib.Dec.{leb}
 use borrow.Author.Tests.{leb-true}
 use Rattle.scan.specs.Bools.{and-l, and-r}
-use Rattle.scan.specs.declared.Span.{Span}
 use Rattle.scan.specs.declared.Class.the-variants.{Letter, Digit}
-use Rattle.scan.specs.Grammar.{G, run, words, part, isIn, all, Derives}
+use Rattle.scan.specs.Grammar.{placeOf, sizeOf, Span, G, run, words, part, isIn, all, Derives}
 use Rattle.scan.specs.Texts.{opt}
 use Rattle.scan.specs.Scanner.{among, occurs}
 use Rattle.scan.specs.Tests.{nullable, clear, apart, fixed, heads, differ, offLeaf, off, names, strange, covers, plain}
@@ -61,11 +60,11 @@ digit-small (x ∷ s) (suc k) h = digit-small s k (and-r (isIn Digit x) (all Dig
 digit-at : (s : List ℕ) (at k : ℕ) → k < 3 → all Digit (take 3 (drop at s)) ≡ true → getD s (at + k) 0 - 48 ≤ 9
 digit-at s at k h d = subst (λ (x : ℕ). x - 48 ≤ 9) (getD-take 3 (drop at s) k 0 h ∙ getD-drop at s k 0) (digit-small (take 3 (drop at s)) k d)
 
-figure-small : (s : List ℕ) (p : Span) → p .len ≡ 3 → all Digit (cut s p) ≡ true → figureIn s p ≤ 999
+figure-small : (s : List ℕ) (p : Span) → sizeOf p ≡ 3 → all Digit (cut s p) ≡ true → figureIn s p ≤ 999
 unfolding figure
 figure-small s p e d =
-    let h : all Digit (take 3 (drop (p .at) s)) ≡ true = ap (λ (k : ℕ). all Digit (take k (drop (p .at) s))) (sym e) ∙ d in
-    rw e (omega (arith, digit-at s (p .at) 0 (omega arith) h, digit-at s (p .at) 1 (omega arith) h, digit-at s (p .at) 2 (omega arith) h))
+    let h : all Digit (take 3 (drop (placeOf p) s)) ≡ true = ap (λ (k : ℕ). all Digit (take k (drop (placeOf p) s))) (sym e) ∙ d in
+    rw e (omega (arith, digit-at s (placeOf p) 0 (omega arith) h, digit-at s (placeOf p) 1 (omega arith) h, digit-at s (placeOf p) 2 (omega arith) h))
 
 -- WHAT A MESSAGE THAT WAS READ SAYS
 
@@ -77,7 +76,7 @@ module _ (w : List ℕ) (r : Record) (j : Judged w Read r) where
   sector-said = order w r j _ (sector-ordered w r j)
 
   -- how long the parts are
-  size-of : (k : ℕ) → spanOf r k .len ≡ length (cut w (spanOf r k))
+  size-of : (k : ℕ) → sizeOf (spanOf r k) ≡ length (cut w (spanOf r k))
   size-of k = sym (cut-size w (spanOf r k) (its-inside w r j k))
 
   pub sector-short : length (cut w (r .parts .sector)) ≤ 20

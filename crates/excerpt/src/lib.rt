@@ -16,8 +16,8 @@ pub fn text_in(w: &[u8], q: Span) -> &[u8]
     requires { ⌜ Inside (now w) q ⌝ }
     ensures { λ r. ⌜ now r ≡ cut (now (w .entry)) q ⌝ }
 {
-    let at = q.at as usize;
-    let len = q.len as usize;
+    let at = (q / 65536) as usize;
+    let len = (q % 65536) as usize;
     if len == 0 {
         return &w[..0];
     }

@@ -7,8 +7,7 @@ use native.Mathlib.Omega.{arith}
 use lib.ListN.{length, getD, take, drop}
 use Rattle.scan.specs.declared.Scan.{Scan}
 use Rattle.scan.specs.declared.Class.the-variants.{Letter, Digit, Byte, Two}
-use Rattle.scan.specs.Grammar.{isIn, all, run}
-use Rattle.scan.specs.declared.Span.{Span}
+use Rattle.scan.specs.Grammar.{Span, isIn, all, run}
 use Rattle.scan.specs.Texts.{byte}
 use Rattle.scan.specs.Scanner.{from, scan, scanAt, among, occurs, spanBy, between16}
 use Rattle.scan.specs.Bools.{and-l, and-r}

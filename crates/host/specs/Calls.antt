@@ -4,7 +4,7 @@ use mathlib.Core.Path.{_≡_}
 use mathlib.Core.List.{List}
 use Prim.Native.Nat.{ℕ}
 use lib.ListN.{length}
-use Rattle.scan.specs.declared.Span.{Span}
+use Rattle.scan.specs.Grammar.{placeOf, sizeOf, Span}
 use Rattle.message.specs.declared.Record.{Record}
 use Rattle.message.specs.declared.Verdict.{Verdict}
 use Rattle.message.specs.declared.Verdict.the-variants.{Read, Refused}
@@ -97,4 +97,4 @@ pub record WroteFrom (d b out : List ℕ) (n l : ℕ) (out′ : List ℕ) : Type
 -- THE WORDS of field 15 or 18: where they start in the text, and how long they are; 0 and 0 where there are none or the text is
 -- refused
 abbrev pub WordsAt : (Record → Span) → List ℕ → ℕ → ℕ → ℕ → Type 0
-WordsAt part text n p l = (v : Verdict) × (r : Record) × Judged text v r × (n ≡ answerOf v .number) × (p ≡ part r .at) × (l ≡ part r .len)
+WordsAt part text n p l = (v : Verdict) × (r : Record) × Judged text v r × (n ≡ answerOf v .number) × (p ≡ placeOf (part r)) × (l ≡ sizeOf (part r))

@@ -5,7 +5,7 @@ use mathlib.Core.Logic.{_⊎_, inl, inr}
 use mathlib.Core.List.{List, []}
 use Prim.Native.Nat.{ℕ}
 use lib.ListN.{length}
-use Rattle.scan.specs.declared.Span.{Span}
+use Rattle.scan.specs.Grammar.{placeOf, sizeOf, Span}
 use Rattle.message.specs.declared.Record.{Record}
 use Rattle.message.specs.declared.Verdict.{Verdict}
 use Rattle.reader.specs.Reading.{answerOf}
@@ -140,4 +140,4 @@ write-one d b out n l out′ k i out″ x y = go (of-size b 246)
 pub words-one : (part : Record → Span) (text : List ℕ) (n p l k s i : ℕ) → WordsAt part text n p l → WordsAt part text k s i → (n ≡ k) × (p ≡ s) × (l ≡ i)
 words-one part text n p l k s i x y =
     let e = judged-one text (x .0) (y .0) (x .1) (y .1) (x .2) (y .2) in
-    (x .3 ∙ ap (λ (v : Verdict). answerOf v .number) (e .verdicts) ∙ sym (y .3), x .4 ∙ ap (λ (r : Record). part r .at) (e .records) ∙ sym (y .4), x .5 ∙ ap (λ (r : Record). part r .len) (e .records) ∙ sym (y .5))
+    (x .3 ∙ ap (λ (v : Verdict). answerOf v .number) (e .verdicts) ∙ sym (y .3), x .4 ∙ ap (λ (r : Record). placeOf (part r)) (e .records) ∙ sym (y .4), x .5 ∙ ap (λ (r : Record). sizeOf (part r)) (e .records) ∙ sym (y .5))

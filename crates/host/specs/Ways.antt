@@ -5,7 +5,7 @@ use mathlib.Core.List.{List, _++_}
 use Prim.Native.Nat.{ℕ, _≤_}
 use native.Mathlib.Omega.{arith}
 use lib.ListN.{length, drop, drop-of-length-le}
-use Rattle.scan.specs.declared.Span.{Span}
+use Rattle.scan.specs.Grammar.{placeOf, sizeOf, Span}
 use Rattle.scan.specs.Bools.{Decides, decides-as}
 use Rattle.message.specs.declared.Record.{Record}
 use Rattle.message.specs.declared.Verdict.{Verdict}
@@ -84,8 +84,8 @@ wrote-from {d} {b} {out} {n} {l} {out′} r v z e w x y = record {
 -- WORDS
 
 module _ (part : Record → Span) {text : List ℕ} (v : Verdict) (r : Record) (j : Judged text v r) (s : Span) (e : s ≡ part r) where
-  pub words-read : v ≡ Read → WordsAt part text 0 (s .at) (s .len)
-  words-read x = (Read, r, subst (λ (u : Verdict). Judged text u r) x j, refl, ap (λ (p : Span). p .at) e, ap (λ (p : Span). p .len) e)
+  pub words-read : v ≡ Read → WordsAt part text 0 (placeOf s) (sizeOf s)
+  words-read x = (Read, r, subst (λ (u : Verdict). Judged text u r) x j, refl, ap (λ (p : Span). placeOf p) e, ap (λ (p : Span). sizeOf p) e)
 
-  pub words-refused : (p q : ℕ) → v ≡ Refused p q → WordsAt part text 1 (s .at) (s .len)
-  words-refused p q x = (Refused p q, r, subst (λ (u : Verdict). Judged text u r) x j, refl, ap (λ (p : Span). p .at) e, ap (λ (p : Span). p .len) e)
+  pub words-refused : (p q : ℕ) → v ≡ Refused p q → WordsAt part text 1 (placeOf s) (sizeOf s)
+  words-refused p q x = (Refused p q, r, subst (λ (u : Verdict). Judged text u r) x j, refl, ap (λ (p : Span). placeOf p) e, ap (λ (p : Span). sizeOf p) e)

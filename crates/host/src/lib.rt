@@ -67,8 +67,8 @@ pub extern "C" fn pamiqsun_route(text: &[u8], at: &mut usize, size: &mut usize) 
 {
     let q = reader::read(text);
     let p = reader::route_in(q.record);
-    *at = p.at as usize;
-    *size = p.len as usize;
+    *at = (p / 65536) as usize;
+    *size = (p % 65536) as usize;
     let v = q.verdict;
     match v {
         Verdict::Read => 0,
@@ -83,8 +83,8 @@ pub extern "C" fn pamiqsun_other(text: &[u8], at: &mut usize, size: &mut usize) 
 {
     let q = reader::read(text);
     let p = reader::other_in(q.record);
-    *at = p.at as usize;
-    *size = p.len as usize;
+    *at = (p / 65536) as usize;
+    *size = (p % 65536) as usize;
     let v = q.verdict;
     match v {
         Verdict::Read => 0,

@@ -8,7 +8,7 @@ use native.Mathlib.Omega.{arith}
 use lib.ListN.{length, getD}
 use lib.Dec.{leb, eqb}
 use borrow.Author.Tests.{leb-true, eqb-true, ne-eqb}
-use Rattle.scan.specs.declared.Span.{Span}
+use Rattle.scan.specs.Grammar.{placeOf, sizeOf, Span}
 use Rattle.scan.specs.Bools.{known, and-l, and-r}
 use Rattle.types.specs.declared.Parts.{Parts}
 use Rattle.types.specs.Picking.{lettersOf}
@@ -51,11 +51,11 @@ module _ (s : List ℕ) (at : ℕ) where
       go (inr e) = rw e
 
 -- what an absent part says
-module _ (s : List ℕ) (p : Span) (h : eqb (p .len) 0 ≡ true) where
+module _ (s : List ℕ) (p : Span) (h : eqb (sizeOf p) 0 ≡ true) where
   absent-figure : 0 ≡ figureIn s p
   absent-figure =
-      let z = eqb-true (p .len) 0 h in
-      figure-no s (p .at) (p .len) (λ e. omega (arith, e, z)) (λ e. omega (arith, e, z)) (λ e. omega (arith, e, z)) (λ e. omega (arith, e, z))
+      let z = eqb-true (sizeOf p) 0 h in
+      figure-no s (placeOf p) (sizeOf p) (λ e. omega (arith, e, z)) (λ e. omega (arith, e, z)) (λ e. omega (arith, e, z)) (λ e. omega (arith, e, z))
 
   absent-level : record { kind = Absent; figure = 0 } ≡ levelIn s p
   unfolding levelIn
@@ -65,7 +65,7 @@ module _ (s : List ℕ) (p : Span) (h : eqb (p .len) 0 ≡ true) where
   unfolding formIn
   absent-form = rw h
 
-pub plain-figures : (s : List ℕ) (p : Parts) (a b c d e f g : Bool) → a ≡ eqb (p .own .count .len) 0 → b ≡ eqb (p .own .level .len) 0 → c ≡ eqb (p .changes .count .len) 0 → d ≡ eqb (p .changes .level .len) 0 → e ≡ eqb (p .estimate .point .len) 0 → f ≡ eqb (p .estimate .crossing .len) 0 → g ≡ eqb (p .estimate .second .len) 0 → (a && b && c && d) && (e && f && g) ≡ true → (x y z : ℕ) → x ≡ figureIn s (p .number .digits) → y ≡ figureIn s (p .reference .digits) → z ≡ figureIn s (p .reason) → record { number = x; reference = y; own = record { count = 0; level = record { kind = Absent; figure = 0 } }; form = NoPoint; crossing = record { kind = Absent; figure = 0 }; second = record { kind = Absent; figure = 0 }; changes = record { count = 0; level = record { kind = Absent; figure = 0 } }; reason = z } ≡ figuresOf s p
+pub plain-figures : (s : List ℕ) (p : Parts) (a b c d e f g : Bool) → a ≡ eqb (sizeOf (p .own .count)) 0 → b ≡ eqb (sizeOf (p .own .level)) 0 → c ≡ eqb (sizeOf (p .changes .count)) 0 → d ≡ eqb (sizeOf (p .changes .level)) 0 → e ≡ eqb (sizeOf (p .estimate .point)) 0 → f ≡ eqb (sizeOf (p .estimate .crossing)) 0 → g ≡ eqb (sizeOf (p .estimate .second)) 0 → (a && b && c && d) && (e && f && g) ≡ true → (x y z : ℕ) → x ≡ figureIn s (p .number .digits) → y ≡ figureIn s (p .reference .digits) → z ≡ figureIn s (p .reason) → record { number = x; reference = y; own = record { count = 0; level = record { kind = Absent; figure = 0 } }; form = NoPoint; crossing = record { kind = Absent; figure = 0 }; second = record { kind = Absent; figure = 0 }; changes = record { count = 0; level = record { kind = Absent; figure = 0 } }; reason = z } ≡ figuresOf s p
 plain-figures s p a b c d e f g a′ b′ c′ d′ e′ f′ g′ h x y z x′ y′ z′ =
     let l = and-l (a && b && c && d) (e && f && g) h in
     let m = and-r (a && b && c && d) (e && f && g) h in

@@ -4,8 +4,7 @@ use mathlib.Core.List.{List}
 use Prim.Native.Nat.{ℕ, zero, suc, _+_, _-_, _*_}
 use lib.ListN.{getD}
 use lib.Dec.{leb, eqb}
-use Rattle.scan.specs.declared.Span.{Span}
-use Rattle.scan.specs.Grammar.{Part, look, none}
+use Rattle.scan.specs.Grammar.{placeOf, sizeOf, Span, Part, look, none}
 use Rattle.types.specs.Scanned.{partsOf}
 use Rattle.types.specs.Picking.{lettersAs, lettersOf}
 use Rattle.message.specs.declared.Kind.{Kind}
@@ -31,7 +30,7 @@ abbrev pub figureAt : ℕ → List ℕ → ℕ → ℕ
 figureAt k s at = cond (leb k 4) (figure k s at) 0
 
 abbrev pub figureIn : List ℕ → Span → ℕ
-figureIn s p = figureAt (p .len) s (p .at)
+figureIn s p = figureAt (sizeOf p) s (placeOf p)
 
 -- the type that three letters name
 unfoldable pub kindOf : ℕ → Kind
@@ -71,17 +70,17 @@ levelKindOf b =
 -- a level's kind, and its figure: the digits after the letter. What has three bytes is VFR, which has none
 unfoldable pub levelIn : List ℕ → Span → Level
 levelIn s p =
-    cond (eqb (p .len) 0) (record { kind = Absent; figure = 0 })
-    (cond (eqb (p .len) 3) (record { kind = Vfr; figure = 0 }) (record { kind = levelKindOf (getD s (p .at) 0); figure = figureAt (p .len - 1) s (p .at + 1) }))
+    cond (eqb (sizeOf p) 0) (record { kind = Absent; figure = 0 })
+    (cond (eqb (sizeOf p) 3) (record { kind = Vfr; figure = 0 }) (record { kind = levelKindOf (getD s (placeOf p) 0); figure = figureAt (sizeOf p - 1) s (placeOf p + 1) }))
 
 -- the form of a point: at most 5 bytes are a name; an E or W at the end of more is that of a longitude, in degrees
 -- where there are 7 bytes; the rest has bearing and distance
 unfoldable pub formIn : List ℕ → Span → PointForm
 formIn s p =
-    cond (eqb (p .len) 0) NoPoint
-    (cond (leb (p .len) 5) Name
-    (cond (eqb (p .len) 7) Degrees
-    (cond (leb 65 (getD s (p .at + p .len - 1) 0)) Minutes Bearing)))
+    cond (eqb (sizeOf p) 0) NoPoint
+    (cond (leb (sizeOf p) 5) Name
+    (cond (eqb (sizeOf p) 7) Degrees
+    (cond (leb 65 (getD s (placeOf p + sizeOf p - 1) 0)) Minutes Bearing)))
 
 abbrev pub planFiguresOf : List ℕ → Plan → PlanFigures
 planFiguresOf s p = record { count = figureIn s (p .count); level = levelIn s (p .level) }

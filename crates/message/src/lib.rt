@@ -3,6 +3,7 @@ ghost use mathlib.Core.Path.{_≡_};
 ghost use Prim.Native.Nat.{_+_, _-_, _≤_, _<_};
 ghost use lib.ListN.{getD};
 ghost use lib.Dec.{eqb};
+ghost use Rattle.scan.specs.Grammar.{placeOf, sizeOf};
 ghost use Rattle.types.specs.Picking.{lettersOf};
 ghost use Rattle.message.specs.Record.{kindOf, levelKindOf, figureAt, levelIn, formIn, figuresOf, planFiguresOf};
 use changes::Plan;
@@ -171,8 +172,8 @@ fn level_kind(b: u8) -> LevelKind
 fn level_in(s: &[u8], p: Span) -> Level
     ensures { λ r. ⌜ r ≡ levelIn (now (s .entry)) p ⌝ }
 {
-    let len = p.len as usize;
-    let at = p.at as usize;
+    let len = (p % 65536) as usize;
+    let at = (p / 65536) as usize;
     if len == 0 {
         return Level {
             kind: LevelKind::Absent,
@@ -201,8 +202,8 @@ fn level_in(s: &[u8], p: Span) -> Level
 fn form_in(s: &[u8], p: Span) -> PointForm
     ensures { λ r. ⌜ r ≡ formIn (now (s .entry)) p ⌝ }
 {
-    let len = p.len as usize;
-    let at = p.at as usize;
+    let len = (p % 65536) as usize;
+    let at = (p / 65536) as usize;
     if len == 0 {
         return PointForm::NoPoint;
     }
@@ -223,8 +224,8 @@ fn plan_figures(s: &[u8], p: Plan) -> PlanFigures
 {
     let n = p.count;
     let l = p.level;
-    let at = n.at as usize;
-    let len = n.len as usize;
+    let at = (n / 65536) as usize;
+    let len = (n % 65536) as usize;
     PlanFigures {
         count: figure(s, at, len),
         level: level_in(s, l),
@@ -232,10 +233,10 @@ fn plan_figures(s: &[u8], p: Plan) -> PlanFigures
 }
 
 fn number_figure(s: &[u8], p: Span) -> usize
-    ensures { λ r. ⌜ r ≡ figureAt (p .len) (now (s .entry)) (p .at) ⌝ }
+    ensures { λ r. ⌜ r ≡ figureAt (sizeOf p) (now (s .entry)) (placeOf p) ⌝ }
 {
-    let at = p.at as usize;
-    let len = p.len as usize;
+    let at = (p / 65536) as usize;
+    let len = (p % 65536) as usize;
     if len == 3 {
         return three(s, at);
     }
@@ -243,9 +244,9 @@ fn number_figure(s: &[u8], p: Span) -> usize
 }
 
 fn absent(p: Span) -> bool
-    ensures { λ r. ⌜ r ≡ eqb (p .len) 0 ⌝ }
+    ensures { λ r. ⌜ r ≡ eqb (sizeOf p) 0 ⌝ }
 {
-    p.len == 0
+    p % 65536 == 0
 }
 
 // Most types have neither levels nor a point nor a count, and one test of all says so.

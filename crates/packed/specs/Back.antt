@@ -1,8 +1,10 @@
 -- What was packed comes back, and has 246 bytes.
 use mathlib.Core.Bool.{Bool, true, cond, _&&_}
 use mathlib.Core.Path.{_≡_, refl, ap, _∙_, fun-ext}
+use native.Mathlib.Omega.{arith}
 use lib.ListN.{length, getD}
 use lib.Dec.{leb}
+use Rattle.scan.specs.Grammar.{Span, span, placeOf, sizeOf}
 use Rattle.message.specs.declared.Kind.{Kind}
 use Rattle.message.specs.declared.Kind.the-variants.{None, Fpl, Cpl, Est, Chg, Cnl, Rti, Rta, Rla, Lam, Lrm}
 use Rattle.message.specs.declared.LevelKind.{LevelKind}
@@ -11,7 +13,7 @@ use Rattle.message.specs.declared.PointForm.{PointForm}
 use Rattle.message.specs.declared.PointForm.the-variants.{NoPoint, Name, Bearing, Degrees, Minutes}
 use Rattle.message.specs.declared.Record.{Record}
 use Rattle.packed.specs.Numbers.{Small, bytes-long, held-back}
-use Rattle.packed.specs.Packed.{kindNumber, levelNumber, formNumber, kindIn, levelKindIn, formIn, numbersOf, packedOf, known, kindBy, recordBy, recordIn}
+use Rattle.packed.specs.Packed.{kindNumber, levelNumber, formNumber, kindIn, levelKindIn, formIn, numbersOf, packedOf, known, kindBy, partsBy, recordBy, recordIn}
 
 pub packed-long : (r : Record) → length (packedOf r) ≡ 246
 unfolding packedOf
@@ -45,6 +47,9 @@ form-back Bearing = refl
 form-back Degrees = refl
 form-back Minutes = refl
 
+span-back : (p : Span) → span (placeOf p) (sizeOf p) ≡ p
+span-back p = omega arith
+
 level-known : (k : LevelKind) → leb (levelNumber k) 5 ≡ true
 level-known Absent = refl
 level-known FlightLevel = refl
@@ -70,11 +75,14 @@ known-back r =
     let e = level-known (r .figures .changes .level .kind) in
     λ i. (((a i && b i) && c i) && d i) && e i
 
+parts-back : (r : Record) → partsBy (λ k. getD (numbersOf r) k 0) ≡ r .parts
+parts-back r = simp span-back
+
 numbers-back : (r : Record) → recordBy (λ k. getD (numbersOf r) k 0) ≡ r
 unfolding recordBy kindBy
 numbers-back r = λ i. record {
   kind = (ap (λ (b : Bool). cond b (kindIn (kindNumber (r .kind))) None) (known-back r) ∙ kind-back (r .kind)) i;
-  parts = r .parts;
+  parts = parts-back r i;
   figures = record {
     number = r .figures .number;
     reference = r .figures .reference;

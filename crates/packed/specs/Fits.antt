@@ -3,17 +3,16 @@
 use mathlib.Core.Path.{_≡_, refl, sym, subst}
 use mathlib.Core.Logic.{⊎-elim}
 use mathlib.Core.Bool.{Bool, true, false, cond, _&&_, false≢true}
-use mathlib.Core.List.{List, [], _∷_, _++_}
+use mathlib.Core.List.{List, [], _∷_, _++_, map}
 use Prim.Native.Nat.{ℕ, zero, suc, _+_, _-_, _≤_, _<_}
 use native.Mathlib.Omega.{arith}
 use lib.ListN.{length, getD}
 use lib.Dec.{eqb, leb}
 use borrow.Author.Tests.{leb-true}
-use Rattle.scan.specs.declared.Span.{Span}
 use Rattle.scan.specs.declared.Class.{Class}
 use Rattle.scan.specs.declared.Class.the-variants.{Word, Byte}
 use Rattle.scan.specs.Bools.{and-l, and-r, or-split}
-use Rattle.scan.specs.Grammar.{Ranges, has, ranges, isIn, all, text, G, eps, run, words, seq, alt, part, field, Derives, look}
+use Rattle.scan.specs.Grammar.{placeOf, sizeOf, Span, Ranges, has, ranges, isIn, all, text, G, eps, run, words, seq, alt, part, field, Derives, look}
 use Rattle.scan.specs.Parts.{reads-derives, part-within}
 use Rattle.scan.specs.Bounds.{derives-short}
 use Rattle.fields.specs.Fields.{inNumbered, in07, in08, counted, in09, in10, hour, minute, timed, in13, in13o, level3, level4, levelled, bearing, bearingFrom, degrees, minutes, pointed, in14, after15, in15, alternates, in16, inThree18, inFour18, in18}
@@ -33,7 +32,7 @@ use Rattle.message.specs.declared.Verdict.the-variants.{Read}
 use Rattle.message.specs.Record.{figure, figureAt, levelKindOf, levelIn, figuresOf, recordBy}
 use Rattle.reader.specs.Reading.{Judged}
 use Rattle.packed.specs.Numbers.{Small}
-use Rattle.packed.specs.Packed.{kindNumber, levelNumber, formNumber, partsNumbers, figureNumbers, numbersOf, packedOf, recordIn}
+use Rattle.packed.specs.Packed.{kindNumber, levelNumber, formNumber, spanNumbers, partsNumbers, figureNumbers, numbersOf, packedOf, recordIn}
 use Rattle.packed.specs.Back.{packed-back}
 
 -- BYTES OF AT MOST 90, which is Z
@@ -126,12 +125,12 @@ module _ (s : List ℕ) (h : (i : ℕ) → getD s i 0 ≤ 90) where
 
   level-fits : (p : Span) → levelIn s p .figure < 65536
   unfolding levelIn
-  level-fits p = go (eqb (p .len) 0) (eqb (p .len) 3)
+  level-fits p = go (eqb (sizeOf p) 0) (eqb (sizeOf p) 3)
     where
-      go : (a b : Bool) → cond {A = Level} a (record { kind = Absent; figure = 0 }) (cond {A = Level} b (record { kind = Vfr; figure = 0 }) (record { kind = levelKindOf (getD s (p .at) 0); figure = figureAt (p .len - 1) s (p .at + 1) })) .figure < 65536
+      go : (a b : Bool) → cond {A = Level} a (record { kind = Absent; figure = 0 }) (cond {A = Level} b (record { kind = Vfr; figure = 0 }) (record { kind = levelKindOf (getD s (placeOf p) 0); figure = figureAt (sizeOf p - 1) s (placeOf p + 1) })) .figure < 65536
       go true b = omega arith
       go false true = omega arith
-      go false false = figures-fit (p .len - 1) (p .at + 1)
+      go false false = figures-fit (sizeOf p - 1) (placeOf p + 1)
 
 kind-fits : (k : Kind) → kindNumber k < 65536
 kind-fits None = omega arith
@@ -169,14 +168,10 @@ small-join [] b p q = q
 small-join (x ∷ a) b p q = (p .0, small-join a b (p .1) q)
 
 -- the parts by their names
-flat : (ℕ → Span) → List ℕ → List ℕ
-flat f [] = []
-flat f (n ∷ ns) = f n .at ∷ f n .len ∷ flat f ns
-
-flat-fits : (f : ℕ → Span) → ((k : ℕ) → f k .at + f k .len ≤ 1077) → (ns : List ℕ) → Small (flat f ns)
-unfolding Small flat
-flat-fits f h [] = tt
-flat-fits f h (n ∷ ns) = (omega (arith, h n), (omega (arith, h n), flat-fits f h ns))
+spans-fit : (f : ℕ → Span) → ((k : ℕ) → placeOf (f k) + sizeOf (f k) ≤ 1077) → (ns : List ℕ) → Small (spanNumbers (map f ns))
+unfolding Small
+spans-fit f h [] = tt
+spans-fit f h (n ∷ ns) = (omega (arith, h n), (omega arith, spans-fit f h ns))
 
 abbrev named : List ℕ
 named =
@@ -186,20 +181,19 @@ named =
     ∷ 33 ∷ 34 ∷ 35 ∷ 36 ∷ 37 ∷ 38 ∷ 39 ∷ 40 ∷ 41 ∷ 42 ∷ 43 ∷ 44 ∷ 45 ∷ 46 ∷ 47 ∷ 48 ∷ 49 ∷ 50 ∷ 51 ∷ 52
     ∷ 69 ∷ 70 ∷ 71 ∷ []
 
-parts-fit : (f : ℕ → Span) → ((k : ℕ) → f k .at + f k .len ≤ 1077) → Small (partsNumbers (partsOf f))
-unfolding flat
-parts-fit f h = flat-fits f h named
+parts-fit : (f : ℕ → Span) → ((k : ℕ) → placeOf (f k) + sizeOf (f k) ≤ 1077) → Small (partsNumbers (partsOf f))
+parts-fit f h = spans-fit f h named
 
 module _ (s : List ℕ) (h : (i : ℕ) → getD s i 0 ≤ 90) (f : ℕ → Span) where
   row-fits : Small (figureNumbers (figuresOf s (partsOf f)))
   unfolding Small
   row-fits =
       let p = partsOf f in (
-        figures-fit s h (p .number .digits .len) (p .number .digits .at),
+        figures-fit s h (sizeOf (p .number .digits)) (placeOf (p .number .digits)),
         (
-          figures-fit s h (p .reference .digits .len) (p .reference .digits .at),
+          figures-fit s h (sizeOf (p .reference .digits)) (placeOf (p .reference .digits)),
           (
-            figures-fit s h (p .own .count .len) (p .own .count .at),
+            figures-fit s h (sizeOf (p .own .count)) (placeOf (p .own .count)),
             (
               level-kind-fits (levelIn s (p .own .level) .kind),
               (
@@ -215,13 +209,13 @@ module _ (s : List ℕ) (h : (i : ℕ) → getD s i 0 ≤ 90) (f : ℕ → Span)
                         (
                           level-fits s h (p .estimate .second),
                           (
-                            figures-fit s h (p .changes .count .len) (p .changes .count .at),
+                            figures-fit s h (sizeOf (p .changes .count)) (placeOf (p .changes .count)),
                             (
                               level-kind-fits (levelIn s (p .changes .level) .kind),
                               (
                                 level-fits s h (p .changes .level),
                                 (
-                                  figures-fit s h (p .reason .len) (p .reason .at),
+                                  figures-fit s h (sizeOf (p .reason)) (placeOf (p .reason)),
                                   tt,
                                 ),
                               ),
@@ -238,7 +232,7 @@ module _ (s : List ℕ) (h : (i : ℕ) → getD s i 0 ≤ 90) (f : ℕ → Span)
         ),
       )
 
-  all-fit : ((k : ℕ) → f k .at + f k .len ≤ 1077) → Small (numbersOf (recordBy s f))
+  all-fit : ((k : ℕ) → placeOf (f k) + sizeOf (f k) ≤ 1077) → Small (numbersOf (recordBy s f))
   unfolding Small
   all-fit g = (kind-fits (recordBy s f .kind), small-join (partsNumbers (partsOf f)) (figureNumbers (figuresOf s (partsOf f))) (parts-fit f g) row-fits)
 

@@ -13,7 +13,7 @@ use mathlib.Core.Bool.{Bool, cond, _&&_}
 use mathlib.Core.List.{List, [], _∷_, _++_}
 use Prim.Native.Nat.{ℕ, _+_}
 use lib.Dec.{eqb, leb}
-use Rattle.scan.specs.declared.Span.{Span}
+use Rattle.scan.specs.Grammar.{Span, span, placeOf, sizeOf}
 use Rattle.changes.specs.declared.Plan.{Plan}
 use Rattle.types.specs.declared.Number.{Number}
 use Rattle.types.specs.declared.Estimate.{Estimate}
@@ -60,30 +60,31 @@ formNumber Bearing = 2
 formNumber Degrees = 3
 formNumber Minutes = 4
 
-abbrev pub spanNumbers : Span → List ℕ
-spanNumbers p = p .at ∷ p .len ∷ []
+-- the parts in their order
 
-abbrev pub numberNumbers : Number → List ℕ
-numberNumbers n = spanNumbers (n .sender) ++ spanNumbers (n .receiver) ++ spanNumbers (n .digits)
+abbrev numberSpans : Number → List Span
+numberSpans n = n .sender ∷ n .receiver ∷ n .digits ∷ []
 
-abbrev pub fourNumbers : Span → Span → Span → Span → List ℕ
-fourNumbers a b c d = spanNumbers a ++ spanNumbers b ++ spanNumbers c ++ spanNumbers d
+abbrev planSpans : Plan → List Span
+planSpans p =
+    p .aircraft ∷ p .code ∷ p .rules ∷ p .flight ∷ p .count ∷ p .model ∷ p .wake ∷ p .equipment ∷ p .surveillance ∷ p .departure
+    ∷ p .time ∷ p .speed ∷ p .level ∷ p .route ∷ p .destination ∷ p .elapsed ∷ p .alternate ∷ p .alternate2 ∷ p .indicator ∷ p .other ∷ []
 
-abbrev pub planNumbers : Plan → List ℕ
-planNumbers p =
-    fourNumbers (p .aircraft) (p .code) (p .rules) (p .flight)
-    ++ fourNumbers (p .count) (p .model) (p .wake) (p .equipment)
-    ++ fourNumbers (p .surveillance) (p .departure) (p .time) (p .speed)
-    ++ fourNumbers (p .level) (p .route) (p .destination) (p .elapsed)
-    ++ fourNumbers (p .alternate) (p .alternate2) (p .indicator) (p .other)
+abbrev estimateSpans : Estimate → List Span
+estimateSpans e = e .point ∷ e .over ∷ e .crossing ∷ e .second ∷ e .sense ∷ []
 
-abbrev pub estimateNumbers : Estimate → List ℕ
-estimateNumbers e = fourNumbers (e .point) (e .over) (e .crossing) (e .second) ++ spanNumbers (e .sense)
+abbrev pub partSpans : Parts → List Span
+partSpans p =
+    numberSpans (p .number) ++ numberSpans (p .reference) ++ planSpans (p .own) ++ estimateSpans (p .estimate)
+    ++ planSpans (p .changes) ++ (p .sector ∷ p .track ∷ p .reason ∷ [])
+
+-- each part as its two numbers
+abbrev pub spanNumbers : List Span → List ℕ
+spanNumbers [] = []
+spanNumbers (p ∷ ps) = placeOf p ∷ sizeOf p ∷ spanNumbers ps
 
 abbrev pub partsNumbers : Parts → List ℕ
-partsNumbers p =
-    numberNumbers (p .number) ++ numberNumbers (p .reference) ++ planNumbers (p .own) ++ estimateNumbers (p .estimate)
-    ++ planNumbers (p .changes) ++ spanNumbers (p .sector) ++ spanNumbers (p .track) ++ spanNumbers (p .reason)
+partsNumbers p = spanNumbers (partSpans p)
 
 abbrev pub levelNumbers : Level → List ℕ
 levelNumbers l = levelNumber (l .kind) ∷ l .figure ∷ []
@@ -118,7 +119,7 @@ formIn n = cond (eqb n 1) Name (cond (eqb n 2) Bearing (cond (eqb n 3) Degrees (
 -- f gives each number by its place, and k is the place of the first
 
 abbrev pub spanBy : (ℕ → ℕ) → ℕ → Span
-spanBy f k = record { at = f k; len = f (k + 1) }
+spanBy f k = span (f k) (f (k + 1))
 
 abbrev pub numberBy : (ℕ → ℕ) → ℕ → Number
 numberBy f k = record { sender = spanBy f k; receiver = spanBy f (k + 2); digits = spanBy f (k + 4) }

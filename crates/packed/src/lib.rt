@@ -3,9 +3,8 @@ ghost use mathlib.Core.Path.{_≡_};
 ghost use mathlib.Core.List.{[], _∷_, _++_};
 ghost use Prim.Native.Nat.{_+_, _*_, _≤_};
 ghost use lib.ListN.{length, drop};
-ghost use Rattle.packed.specs.Packed.{kindNumber, levelNumber, formNumber, spanNumbers, numberNumbers, fourNumbers, planNumbers, estimateNumbers, partsNumbers, levelNumbers, planFigureNumbers, figureNumbers, packedOf};
+ghost use Rattle.packed.specs.Packed.{kindNumber, levelNumber, formNumber, spanNumbers, partSpans, partsNumbers, levelNumbers, planFigureNumbers, figureNumbers, packedOf};
 ghost use Rattle.packed.specs.Laid.{Puts};
-use changes::Plan;
 use message::Figures;
 use message::Kind;
 use message::Level;
@@ -14,8 +13,6 @@ use message::PlanFigures;
 use message::PointForm;
 use message::Record;
 use scan::Span;
-use types::Estimate;
-use types::Number;
 use types::Parts;
 
 pub mod head_bytes;
@@ -75,149 +72,89 @@ pub(crate) fn put_one(out: &mut [u8], k: usize, n: usize) -> usize
     k + 1
 }
 
-fn put_span(out: &mut [u8], k: usize, p: Span) -> usize
-    requires { ⌜ 2 * k + 4 ≤ length (now out) ⌝ }
-    ensures { λ r. ⌜ Puts k (spanNumbers p) (now (out .entry)) (now (out .exit)) r ⌝ }
+// The parts in their order, so that one loop writes them all.
+fn parts_row(p: Parts) -> [Span; 54]
+    ensures { λ r. ⌜ r ≡ partSpans p ⌝ }
 {
-    let at = p.at as usize;
-    let len = p.len as usize;
-    let m = put_one(out, k, at);
-    put_one(out, m, len)
-}
-
-fn put_four(out: &mut [u8], k: usize, a: Span, b: Span, c: Span, d: Span) -> usize
-    requires { ⌜ 2 * k + 16 ≤ length (now out) ⌝ }
-    ensures { λ r. ⌜ Puts k (fourNumbers a b c d) (now (out .entry)) (now (out .exit)) r ⌝ }
-{
-    let m = put_span(out, k, a);
-    let n = put_span(out, m, b);
-    let o = put_span(out, n, c);
-    put_span(out, o, d)
-}
-
-fn put_number(out: &mut [u8], k: usize, n: Number) -> usize
-    requires { ⌜ 2 * k + 12 ≤ length (now out) ⌝ }
-    ensures { λ r. ⌜ Puts k (numberNumbers n) (now (out .entry)) (now (out .exit)) r ⌝ }
-{
-    let a = put_span(out, k, n.sender);
-    let b = put_span(out, a, n.receiver);
-    put_span(out, b, n.digits)
-}
-
-fn wide(n: u16) -> usize
-    ensures { λ r. ⌜ r ≡ n ⌝ }
-{
-    n as usize
-}
-
-// The numbers of a row, one after the other. It is a loop, so that eight of them go at a time.
-fn put_row(out: &mut [u8], k: usize, row: &[u16]) -> usize
-    requires { ⌜ 2 * k + 2 * length (now row) ≤ length (now out) ⌝ }
-    ensures { λ r. ⌜ Puts k (now (row .entry)) (now (out .entry)) (now (out .exit)) r ⌝ }
-{
-    let mut i = 0;
-    while i < row.len() {
-        put_one(out, k + i, wide(row[i]));
-        i += 1;
-    }
-    k + i
-}
-
-fn plan_row(p: Plan) -> [u16; 40]
-    ensures { λ r. ⌜ r ≡ planNumbers p ⌝ }
-{
-    let aircraft = p.aircraft;
-    let code = p.code;
-    let rules = p.rules;
-    let flight = p.flight;
-    let count = p.count;
-    let model = p.model;
-    let wake = p.wake;
-    let equipment = p.equipment;
-    let surveillance = p.surveillance;
-    let departure = p.departure;
-    let time = p.time;
-    let speed = p.speed;
-    let level = p.level;
-    let route = p.route;
-    let destination = p.destination;
-    let elapsed = p.elapsed;
-    let alternate = p.alternate;
-    let alternate2 = p.alternate2;
-    let indicator = p.indicator;
-    let other = p.other;
     [
-        aircraft.at,
-        aircraft.len,
-        code.at,
-        code.len,
-        rules.at,
-        rules.len,
-        flight.at,
-        flight.len,
-        count.at,
-        count.len,
-        model.at,
-        model.len,
-        wake.at,
-        wake.len,
-        equipment.at,
-        equipment.len,
-        surveillance.at,
-        surveillance.len,
-        departure.at,
-        departure.len,
-        time.at,
-        time.len,
-        speed.at,
-        speed.len,
-        level.at,
-        level.len,
-        route.at,
-        route.len,
-        destination.at,
-        destination.len,
-        elapsed.at,
-        elapsed.len,
-        alternate.at,
-        alternate.len,
-        alternate2.at,
-        alternate2.len,
-        indicator.at,
-        indicator.len,
-        other.at,
-        other.len,
+        p.number.sender,
+        p.number.receiver,
+        p.number.digits,
+        p.reference.sender,
+        p.reference.receiver,
+        p.reference.digits,
+        p.own.aircraft,
+        p.own.code,
+        p.own.rules,
+        p.own.flight,
+        p.own.count,
+        p.own.model,
+        p.own.wake,
+        p.own.equipment,
+        p.own.surveillance,
+        p.own.departure,
+        p.own.time,
+        p.own.speed,
+        p.own.level,
+        p.own.route,
+        p.own.destination,
+        p.own.elapsed,
+        p.own.alternate,
+        p.own.alternate2,
+        p.own.indicator,
+        p.own.other,
+        p.estimate.point,
+        p.estimate.over,
+        p.estimate.crossing,
+        p.estimate.second,
+        p.estimate.sense,
+        p.changes.aircraft,
+        p.changes.code,
+        p.changes.rules,
+        p.changes.flight,
+        p.changes.count,
+        p.changes.model,
+        p.changes.wake,
+        p.changes.equipment,
+        p.changes.surveillance,
+        p.changes.departure,
+        p.changes.time,
+        p.changes.speed,
+        p.changes.level,
+        p.changes.route,
+        p.changes.destination,
+        p.changes.elapsed,
+        p.changes.alternate,
+        p.changes.alternate2,
+        p.changes.indicator,
+        p.changes.other,
+        p.sector,
+        p.track,
+        p.reason,
     ]
 }
 
-fn put_plan(out: &mut [u8], k: usize, p: Plan) -> usize
-    requires { ⌜ 2 * k + 80 ≤ length (now out) ⌝ }
-    ensures { λ r. ⌜ Puts k (planNumbers p) (now (out .entry)) (now (out .exit)) r ⌝ }
+// The parts of a row, one after the other. The two numbers of a part stand side by side, so that one store of four bytes writes both.
+fn put_row(out: &mut [u8], k: usize, row: &[Span]) -> usize
+    requires { ⌜ 2 * k + 4 * length (now row) ≤ length (now out) ⌝ }
+    ensures { λ r. ⌜ Puts k (spanNumbers (now (row .entry))) (now (out .entry)) (now (out .exit)) r ⌝ }
 {
-    let row = plan_row(p);
-    put_row(out, k, &row)
-}
-
-fn put_estimate(out: &mut [u8], k: usize, e: Estimate) -> usize
-    requires { ⌜ 2 * k + 20 ≤ length (now out) ⌝ }
-    ensures { λ r. ⌜ Puts k (estimateNumbers e) (now (out .entry)) (now (out .exit)) r ⌝ }
-{
-    let a = put_four(out, k, e.point, e.over, e.crossing, e.second);
-    put_span(out, a, e.sense)
+    let mut i = 0;
+    while i < row.len() {
+        let p = row[i];
+        let m = put_one(out, k + 2 * i, (p / 65536) as usize);
+        put_one(out, m, (p % 65536) as usize);
+        i += 1;
+    }
+    k + 2 * i
 }
 
 fn put_parts(out: &mut [u8], k: usize, p: Parts) -> usize
     requires { ⌜ 2 * k + 216 ≤ length (now out) ⌝ }
     ensures { λ r. ⌜ Puts k (partsNumbers p) (now (out .entry)) (now (out .exit)) r ⌝ }
 {
-    let a = put_number(out, k, p.number);
-    let b = put_number(out, a, p.reference);
-    let c = put_plan(out, b, p.own);
-    let d = put_estimate(out, c, p.estimate);
-    let e = put_plan(out, d, p.changes);
-    let f = put_span(out, e, p.sector);
-    let g = put_span(out, f, p.track);
-    put_span(out, g, p.reason)
+    let row = parts_row(p);
+    put_row(out, k, &row)
 }
 
 fn put_level(out: &mut [u8], k: usize, l: Level) -> usize

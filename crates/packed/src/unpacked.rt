@@ -119,10 +119,7 @@ fn span_in(b: &[u8], k: usize) -> Span
     requires { ⌜ 2 * k + 4 ≤ length (now b) ⌝ }
     ensures { λ r. ⌜ r ≡ spanBy (held (now (b .entry))) k ⌝ }
 {
-    Span {
-        at: one_in(b, k),
-        len: one_in(b, k + 1),
-    }
+    one_in(b, k) as u32 * 65536 + one_in(b, k + 1) as u32
 }
 
 fn number_in(b: &[u8], k: usize) -> Number

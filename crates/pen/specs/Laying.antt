@@ -9,7 +9,7 @@ use lib.ListN.{length, take, drop, length-append}
 use lib.Dec.{ltb}
 use borrow.Author.Tests.{lt-ltb, le-ltb, ltb-true, ltb-false}
 use Rattle.scan.specs.Bools.{known}
-use Rattle.scan.specs.declared.Span.{Span}
+use Rattle.scan.specs.Grammar.{placeOf, sizeOf, Span}
 use Rattle.changes.specs.declared.Plan.{Plan}
 use Rattle.types.specs.declared.Estimate.{Estimate}
 use Rattle.types.specs.declared.Parts.{Parts}
@@ -167,10 +167,10 @@ added d t e p r x o v h s = record {
 
 -- A PART
 
-pub absent : (d t : List ℕ) (p : Pen) (q : Span) → q .len ≡ 0 → Adds d t p (cut d q ∷ []) (q ∷ []) t p
-absent d t p q e = nothing d t p (cut d q ∷ []) (q ∷ []) (ap (λ (k : ℕ). take k (drop (q .at) d) ++ []) e) (inl e, tt)
+pub absent : (d t : List ℕ) (p : Pen) (q : Span) → sizeOf q ≡ 0 → Adds d t p (cut d q ∷ []) (q ∷ []) t p
+absent d t p q e = nothing d t p (cut d q ∷ []) (q ∷ []) (ap (λ (k : ℕ). take k (drop (placeOf q) d) ++ []) e) (inl e, tt)
 
-pub outside : (d t : List ℕ) (p r : Pen) (q : Span) → (q .len ≡ 0 → ⊥) → length d < q .at + q .len → r .ok ≡ false → Adds d t p (cut d q ∷ []) (q ∷ []) t r
+pub outside : (d t : List ℕ) (p r : Pen) (q : Span) → (sizeOf q ≡ 0 → ⊥) → length d < placeOf q + sizeOf q → r .ok ≡ false → Adds d t p (cut d q ∷ []) (q ∷ []) t r
 outside d t p r q n h e = failed d t p r (cut d q ∷ []) (q ∷ []) e (λ w s i. ⊎-elim (λ z. absurd (n z)) (λ z. absurd (omega arith)) (i .0))
 
 pub within : {d t e : List ℕ} {p r : Pen} {xs : List (List ℕ)} (qs : List Span) → AllInside d qs → Adds d t p xs [] e r → Adds d t p xs qs e r
@@ -186,7 +186,7 @@ within {d} {t} {e} {p} {r} {xs} qs i a = record {
 
 abbrev pub lens : List Span → List ℕ
 lens [] = []
-lens (q ∷ qs) = q .len ∷ lens qs
+lens (q ∷ qs) = sizeOf q ∷ lens qs
 
 all-absent : (d : List ℕ) (qs : List Span) → total (lens qs) ≡ 0 → AllInside d qs
 all-absent d [] e = tt
@@ -199,8 +199,8 @@ pub stands : {d t e : List ℕ} {p r : Pen} {xs : List (List ℕ)} {qs : List Sp
 stands {qs = qs} y h e a = alike (e ∙ sym (append-nil y) ∙ ap (λ (z : List ℕ). z ++ []) (sym (is-given (lens qs) y h))) a
 
 -- an absent part has no bytes
-no-bytes : (d : List ℕ) (q : Span) → q .len ≡ 0 → cut d q ≡ []
-no-bytes d q e = ap (λ (k : ℕ). take k (drop (q .at) d)) e
+no-bytes : (d : List ℕ) (q : Span) → sizeOf q ≡ 0 → cut d q ≡ []
+no-bytes d q e = ap (λ (k : ℕ). take k (drop (placeOf q) d)) e
 
 pub given-parts : (d : List ℕ) (qs : List Span) (x : List ℕ) → (total (lens qs) ≡ 0 → x ≡ []) → given (lens qs) x ≡ x
 given-parts d qs x h = ⊎-elim (λ e. is-given (lens qs) x (ltb-true 0 (total (lens qs)) e)) (λ e. let z : total (lens qs) ≡ 0 = omega (arith, ltb-false 0 (total (lens qs)) e) in none-given (lens qs) x z ∙ sym (h z)) (known (ltb 0 (total (lens qs))))
@@ -208,65 +208,65 @@ given-parts d qs x h = ⊎-elim (λ e. is-given (lens qs) x (ltb-true 0 (total (
 -- THE TEXTS OF THE FIELDS, each led by its hyphen and, within field 22, its number; where no part is there, nothing stands
 
 abbrev pub ledBy : List ℕ → List ℕ → Span → List ℕ
-ledBy lead d a = given (a .len ∷ []) (lead ++ cut d a)
+ledBy lead d a = given (sizeOf a ∷ []) (lead ++ cut d a)
 
 abbrev pub textNumber : List ℕ → Span → Span → Span → List ℕ
 textNumber d a b c = cut d a ++ (47 ∷ (cut d b ++ cut d c))
 
 abbrev pub textReference : List ℕ → Span → Span → Span → List ℕ
-textReference d a b c = given (a .len ∷ b .len ∷ c .len ∷ []) (textNumber d a b c)
+textReference d a b c = given (sizeOf a ∷ sizeOf b ∷ sizeOf c ∷ []) (textNumber d a b c)
 
 abbrev pub text07 : List ℕ → List ℕ → Span → Span → List ℕ
-text07 lead d a b = given (a .len ∷ b .len ∷ []) (lead ++ (cut d a ++ ledBy (47 ∷ 65 ∷ []) d b))
+text07 lead d a b = given (sizeOf a ∷ sizeOf b ∷ []) (lead ++ (cut d a ++ ledBy (47 ∷ 65 ∷ []) d b))
 
 -- two parts: 13 within field 22
 abbrev pub textBoth : List ℕ → List ℕ → Span → Span → List ℕ
-textBoth lead d a b = given (a .len ∷ b .len ∷ []) (lead ++ (cut d a ++ cut d b))
+textBoth lead d a b = given (sizeOf a ∷ sizeOf b ∷ []) (lead ++ (cut d a ++ cut d b))
 
 -- two parts, of which the second may be absent: 08, and 13o
 abbrev pub textPair : List ℕ → List ℕ → Span → Span → List ℕ
-textPair lead d a b = given (a .len ∷ b .len ∷ []) (lead ++ (cut d a ++ ledBy [] d b))
+textPair lead d a b = given (sizeOf a ∷ sizeOf b ∷ []) (lead ++ (cut d a ++ ledBy [] d b))
 
 abbrev pub text09 : List ℕ → List ℕ → Span → Span → Span → List ℕ
-text09 lead d a b c = given (a .len ∷ b .len ∷ c .len ∷ []) (lead ++ (ledBy [] d a ++ (cut d b ++ (47 ∷ cut d c))))
+text09 lead d a b c = given (sizeOf a ∷ sizeOf b ∷ sizeOf c ∷ []) (lead ++ (ledBy [] d a ++ (cut d b ++ (47 ∷ cut d c))))
 
 abbrev pub text10 : List ℕ → List ℕ → Span → Span → List ℕ
-text10 lead d a b = given (a .len ∷ b .len ∷ []) (lead ++ (cut d a ++ (47 ∷ cut d b)))
+text10 lead d a b = given (sizeOf a ∷ sizeOf b ∷ []) (lead ++ (cut d a ++ (47 ∷ cut d b)))
 
 abbrev pub text14 : List ℕ → List ℕ → Span → Span → Span → Span → Span → List ℕ
 text14 lead d a b c e f =
-    given (a .len ∷ b .len ∷ c .len ∷ e .len ∷ f .len ∷ [])
-    (lead ++ (cut d a ++ (47 ∷ (cut d b ++ (cut d c ++ given (e .len ∷ f .len ∷ []) (cut d e ++ cut d f))))))
+    given (sizeOf a ∷ sizeOf b ∷ sizeOf c ∷ sizeOf e ∷ sizeOf f ∷ [])
+    (lead ++ (cut d a ++ (47 ∷ (cut d b ++ (cut d c ++ given (sizeOf e ∷ sizeOf f ∷ []) (cut d e ++ cut d f))))))
 
 abbrev pub text15 : List ℕ → List ℕ → Span → Span → Span → List ℕ
-text15 lead d a b c = given (a .len ∷ b .len ∷ c .len ∷ []) (lead ++ (cut d a ++ (cut d b ++ (32 ∷ cut d c))))
+text15 lead d a b c = given (sizeOf a ∷ sizeOf b ∷ sizeOf c ∷ []) (lead ++ (cut d a ++ (cut d b ++ (32 ∷ cut d c))))
 
 abbrev pub textAlternates : List ℕ → Span → Span → List ℕ
-textAlternates d a b = given (a .len ∷ b .len ∷ []) (32 ∷ (cut d a ++ ledBy (32 ∷ []) d b))
+textAlternates d a b = given (sizeOf a ∷ sizeOf b ∷ []) (32 ∷ (cut d a ++ ledBy (32 ∷ []) d b))
 
 abbrev pub text16 : List ℕ → List ℕ → Span → Span → Span → Span → List ℕ
 text16 lead d a b c e =
-    given (a .len ∷ b .len ∷ c .len ∷ e .len ∷ [])
+    given (sizeOf a ∷ sizeOf b ∷ sizeOf c ∷ sizeOf e ∷ [])
     (lead ++ (cut d a ++ (ledBy [] d b ++ textAlternates d c e)))
 
 abbrev pub text18 : List ℕ → List ℕ → Span → Span → List ℕ
-text18 lead d a b = given (a .len ∷ b .len ∷ []) (lead ++ cond (not (some (b .len ∷ b .len ∷ []))) (cut d a) (cut d a ++ (47 ∷ cut d b)))
+text18 lead d a b = given (sizeOf a ∷ sizeOf b ∷ []) (lead ++ cond (not (some (sizeOf b ∷ sizeOf b ∷ []))) (cut d a) (cut d a ++ (47 ∷ cut d b)))
 
 pub own-part : (d : List ℕ) (a : Span) → ledBy [] d a ≡ cut d a
 own-part d a = given-parts d (a ∷ []) (cut d a) (λ e. no-bytes d a (omega arith))
 
 pub pair-both : {t e : List ℕ} {p r : Pen} (lead d : List ℕ) (a b : Span) → Adds d t p (textPair lead d a b ∷ []) (a ∷ b ∷ []) e r → Adds d t p (textBoth lead d a b ∷ []) (a ∷ b ∷ []) e r
-pair-both lead d a b x = alike (ap (λ (z : List ℕ). given (a .len ∷ b .len ∷ []) (lead ++ (cut d a ++ z)) ++ []) (own-part d b)) x
+pair-both lead d a b x = alike (ap (λ (z : List ℕ). given (sizeOf a ∷ sizeOf b ∷ []) (lead ++ (cut d a ++ z)) ++ []) (own-part d b)) x
 
-pub form-18 : (d : List ℕ) (a b : Span) → cut d a ++ ledBy (47 ∷ []) d b ≡ cond (not (some (b .len ∷ b .len ∷ []))) (cut d a) (cut d a ++ (47 ∷ cut d b))
-form-18 d a b = go (known (ltb 0 (b .len)))
+pub form-18 : (d : List ℕ) (a b : Span) → cut d a ++ ledBy (47 ∷ []) d b ≡ cond (not (some (sizeOf b ∷ sizeOf b ∷ []))) (cut d a) (cut d a ++ (47 ∷ cut d b))
+form-18 d a b = go (known (ltb 0 (sizeOf b)))
   where
-    go : (ltb 0 (b .len) ≡ true) ⊎ (ltb 0 (b .len) ≡ false) → cut d a ++ ledBy (47 ∷ []) d b ≡ cond (not (some (b .len ∷ b .len ∷ []))) (cut d a) (cut d a ++ (47 ∷ cut d b))
+    go : (ltb 0 (sizeOf b) ≡ true) ⊎ (ltb 0 (sizeOf b) ≡ false) → cut d a ++ ledBy (47 ∷ []) d b ≡ cond (not (some (sizeOf b ∷ sizeOf b ∷ []))) (cut d a) (cut d a ++ (47 ∷ cut d b))
     go (inl e) = rw e
     go (inr e) = rw e (append-nil (cut d a))
 
-pub two-parts : (d : List ℕ) (a b : Span) → given (a .len ∷ b .len ∷ []) (cut d a ++ cut d b) ≡ cut d a ++ cut d b
-two-parts d a b = given-parts d (a ∷ b ∷ []) (cut d a ++ cut d b) (λ e. λ i. no-bytes d a (let z : a .len ≡ 0 = omega arith in z) i ++ no-bytes d b (let z : b .len ≡ 0 = omega arith in z) i)
+pub two-parts : (d : List ℕ) (a b : Span) → given (sizeOf a ∷ sizeOf b ∷ []) (cut d a ++ cut d b) ≡ cut d a ++ cut d b
+two-parts d a b = given-parts d (a ∷ b ∷ []) (cut d a ++ cut d b) (λ e. λ i. no-bytes d a (let z : sizeOf a ≡ 0 = omega arith in z) i ++ no-bytes d b (let z : sizeOf b ≡ 0 = omega arith in z) i)
 
 -- THE BLOCKS OF A TEXT AND THE PARTS IN THEM
 

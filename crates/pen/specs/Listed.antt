@@ -4,8 +4,7 @@ use mathlib.Core.Logic.{_⊎_}
 use mathlib.Core.List.{List, [], _∷_, _++_}
 use Prim.Native.Nat.{ℕ, _+_, _≤_}
 use lib.ListN.{length}
-use Rattle.scan.specs.declared.Span.{Span}
-use Rattle.scan.specs.Grammar.{Part, look}
+use Rattle.scan.specs.Grammar.{placeOf, sizeOf, Span, Part, look}
 use Rattle.fields.specs.Names as n
 use Rattle.changes.specs.declared.Plan.{Plan}
 use Rattle.types.specs.declared.Number.{Number}
@@ -67,4 +66,4 @@ spanOf r k = look k (partsIn (r .parts))
 
 -- a part that is there lies within the bytes
 abbrev pub Inside : List ℕ → Span → Type 0
-Inside d p = (p .len ≡ 0) ⊎ (p .at + p .len ≤ length d)
+Inside d p = (sizeOf p ≡ 0) ⊎ (placeOf p + sizeOf p ≤ length d)

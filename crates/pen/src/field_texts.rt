@@ -1,33 +1,38 @@
 // The fields, each laid out from its parts.
 ghost use mathlib.Core.List.{[], _∷_};
 ghost use mathlib.Core.Path.{_≡_};
+ghost use Rattle.scan.specs.Grammar.{sizeOf};
 ghost use Rattle.pen.specs.Laying.{Adds, total, textReference, text07, textPair, text09, text10, text14, text15, textAlternates, text16, text18};
 use crate::Pen;
 use scan::Span;
 
 // How many bytes some parts have, so that one test says whether any is there.
 fn both(a: Span, b: Span) -> usize
-    ensures { λ r. ⌜ r ≡ total (a .len ∷ b .len ∷ []) ⌝ }
+    ensures { λ r. ⌜ r ≡ total (sizeOf a ∷ sizeOf b ∷ []) ⌝ }
 {
-    a.len as usize + b.len as usize
+    (a % 65536) as usize + (b % 65536) as usize
 }
 
 fn three(a: Span, b: Span, c: Span) -> usize
-    ensures { λ r. ⌜ r ≡ total (a .len ∷ b .len ∷ c .len ∷ []) ⌝ }
+    ensures { λ r. ⌜ r ≡ total (sizeOf a ∷ sizeOf b ∷ sizeOf c ∷ []) ⌝ }
 {
-    a.len as usize + b.len as usize + c.len as usize
+    (a % 65536) as usize + (b % 65536) as usize + (c % 65536) as usize
 }
 
 fn four(a: Span, b: Span, c: Span, e: Span) -> usize
-    ensures { λ r. ⌜ r ≡ total (a .len ∷ b .len ∷ c .len ∷ e .len ∷ []) ⌝ }
+    ensures { λ r. ⌜ r ≡ total (sizeOf a ∷ sizeOf b ∷ sizeOf c ∷ sizeOf e ∷ []) ⌝ }
 {
-    a.len as usize + b.len as usize + c.len as usize + e.len as usize
+    (a % 65536) as usize + (b % 65536) as usize + (c % 65536) as usize + (e % 65536) as usize
 }
 
 fn five(a: Span, b: Span, c: Span, e: Span, f: Span) -> usize
-    ensures { λ r. ⌜ r ≡ total (a .len ∷ b .len ∷ c .len ∷ e .len ∷ f .len ∷ []) ⌝ }
+    ensures { λ r. ⌜ r ≡ total (sizeOf a ∷ sizeOf b ∷ sizeOf c ∷ sizeOf e ∷ sizeOf f ∷ []) ⌝ }
 {
-    a.len as usize + b.len as usize + c.len as usize + e.len as usize + f.len as usize
+    (a % 65536) as usize
+        + (b % 65536) as usize
+        + (c % 65536) as usize
+        + (e % 65536) as usize
+        + (f % 65536) as usize
 }
 
 pub fn add_reference(text: &mut [u8], p: Pen, d: &[u8], a: Span, b: Span, c: Span) -> Pen

@@ -37,8 +37,8 @@ pub fn add(text: &mut [u8], p: Pen, src: &[u8]) -> Pen
 pub fn add_part(text: &mut [u8], p: Pen, d: &[u8], q: Span) -> Pen
     ensures { λ r. ⌜ Adds (now (d .entry)) (now (text .entry)) p (cut (now (d .entry)) q ∷ []) (q ∷ []) (now (text .exit)) r ⌝ }
 {
-    let at = q.at as usize;
-    let len = q.len as usize;
+    let at = (q / 65536) as usize;
+    let len = (q % 65536) as usize;
     if len == 0 {
         return p;
     }
@@ -56,7 +56,7 @@ pub fn add_part(text: &mut [u8], p: Pen, d: &[u8], q: Span) -> Pen
 pub fn add_led<'a>(text: &mut [u8], p: Pen, d: &'a [u8], lead: &'a [u8], a: Span) -> Pen
     ensures { λ r. ⌜ Adds (now (d .entry)) (now (text .entry)) p (ledBy (now (lead .entry)) (now (d .entry)) a ∷ []) (a ∷ []) (now (text .exit)) r ⌝ }
 {
-    if a.len == 0 {
+    if a % 65536 == 0 {
         return p;
     }
     let p1 = add(text, p, lead);

@@ -207,13 +207,11 @@ fn sped(s: &[u8], r: Scan, v: Scan, k: usize) -> Found15
     let speed = scan::between(r, v);
     let a = after15(s, v, k);
     let end = a.end;
-    let level = a.level;
-    let route = a.route;
     Found15 {
         end,
         speed,
-        level,
-        route,
+        level: a.level,
+        route: a.route,
     }
 }
 
@@ -267,13 +265,11 @@ pub fn field16(s: &[u8], r: Scan) -> Found16
     let elapsed = scan::either(a, b, scan::none(), scan::between(a, b));
     let c = alternates(s, scan::longer(a, b));
     let end = c.end;
-    let alternate = c.alternate;
-    let alternate2 = c.alternate2;
     Found16 {
         end,
         destination,
         elapsed,
-        alternate,
-        alternate2,
+        alternate: c.alternate,
+        alternate2: c.alternate2,
     }
 }

@@ -11,8 +11,7 @@ use lib.Dec.{eqb}
 use borrow.Author.Tests.{eqb-true}
 use Rattle.scan.specs.Bools.{and-l, and-r, known}
 use Rattle.scan.specs.declared.Scan.{Scan}
-use Rattle.scan.specs.declared.Span.{Span}
-use Rattle.scan.specs.Grammar.{Derives, Reads, Refusal, none, look}
+use Rattle.scan.specs.Grammar.{placeOf, sizeOf, Span, Derives, Reads, Refusal, none, look}
 use Rattle.scan.specs.Scanner.{from, scanAt, spot}
 use Rattle.scan.specs.Tests.{longest}
 use Rattle.scan.specs.Theory.{place, accepts-of}
@@ -146,21 +145,21 @@ unfolding scannedBy
 place-within s q h = sym (length-take-le (q .end .next) s (omega (arith, ap (λ (x : Scanned). x .end .next) h, place message message-good s .within)))
 
 -- the words of fields 15 and 18 lie within the text
-pub words-within : (s : List ℕ) (v : Verdict) (r : Record) (p : Record → Span) → ((f : ℕ → Span) → (n : ℕ) × (p (recordBy s f) ≡ f n)) → p blank ≡ none → Judged s v r → p r .at + p r .len ≤ length s
+pub words-within : (s : List ℕ) (v : Verdict) (r : Record) (p : Record → Span) → ((f : ℕ → Span) → (n : ℕ) × (p (recordBy s f) ≡ f n)) → p blank ≡ none → Judged s v r → placeOf (p r) + sizeOf (p r) ≤ length s
 words-within s Read r p at z j =
     let n = at (λ k. look k (j .0)) in
-    subst (λ (x : Span). x .at + x .len ≤ length s) (sym (ap p (j .2) ∙ n .1)) (part-within message s (j .0) (n .0) (j .1))
-words-within s (Refused n h) r p at z j = subst (λ (x : Span). x .at + x .len ≤ length s) (sym (ap p (j .2) ∙ z)) (omega arith)
+    subst (λ (x : Span). placeOf x + sizeOf x ≤ length s) (sym (ap p (j .2) ∙ n .1)) (part-within message s (j .0) (n .0) (j .1))
+words-within s (Refused n h) r p at z j = subst (λ (x : Span). placeOf x + sizeOf x ≤ length s) (sym (ap p (j .2) ∙ z)) (omega arith)
 
 of-either : (b : Bool) (f : ℕ → Span) (m n : ℕ) → (k : ℕ) × (cond b (f m) (f n) ≡ f k)
 of-either true f m n = (m, refl)
 of-either false f m n = (n, refl)
 
-pub route-within : (s : List ℕ) (v : Verdict) (r : Record) → Judged s v r → route r .at + route r .len ≤ length s
+pub route-within : (s : List ℕ) (v : Verdict) (r : Record) → Judged s v r → placeOf (route r) + sizeOf (route r) ≤ length s
 unfolding isChg
 route-within s v r j = words-within s v r route (λ f. of-either (isChg (kindOf (lettersOf s))) f (n.amended + n.route) n.route) refl j
 
-pub other-within : (s : List ℕ) (v : Verdict) (r : Record) → Judged s v r → other r .at + other r .len ≤ length s
+pub other-within : (s : List ℕ) (v : Verdict) (r : Record) → Judged s v r → placeOf (other r) + sizeOf (other r) ≤ length s
 unfolding isChg
 other-within s v r j = words-within s v r other (λ f. of-either (isChg (kindOf (lettersOf s))) f (n.amended + n.other) n.other) refl j
 

@@ -7,8 +7,7 @@ use mathlib.Core.List.{List, [], _∷_}
 use Prim.Native.Nat.{ℕ, suc}
 use lib.ListN.{take, drop}
 use lib.Dec.{eqb}
-use Rattle.scan.specs.declared.Span.{Span}
-use Rattle.scan.specs.Grammar.{Derives, Part, Reads, Refusal}
+use Rattle.scan.specs.Grammar.{placeOf, sizeOf, Span, Derives, Part, Reads, Refusal}
 use Rattle.message.specs.declared.Verdict.{Verdict}
 use Rattle.message.specs.declared.Verdict.the-variants.{Read, Refused}
 use Rattle.message.specs.declared.Record.{Record}
@@ -44,7 +43,7 @@ Answers s a =
 
 -- the bytes of a part
 abbrev pub cut : List ℕ → Span → List ℕ
-cut s p = take (p .len) (drop (p .at) s)
+cut s p = take (sizeOf p) (drop (placeOf p) s)
 
 -- where the words of field 15 and those of field 18 stand; in a CHG, within field 22
 abbrev pub route : Record → Span

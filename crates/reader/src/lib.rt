@@ -2,6 +2,7 @@
 ghost use mathlib.Core.Path.{_≡_};
 ghost use Prim.Native.Nat.{_+_, _-_, _≤_, _<_};
 ghost use lib.ListN.{length};
+ghost use Rattle.scan.specs.Grammar.{placeOf, sizeOf};
 ghost use Rattle.message.specs.Record.{blank as blankOf, isChg};
 ghost use Rattle.reader.specs.Reading.{hyphens as hyphensOf, Judged, cut, Words, route as routeOf, other as otherOf};
 ghost use Rattle.reader.specs.Reader.{verdict as verdictOf};
@@ -146,11 +147,11 @@ pub fn other_in(r: Record) -> Span
 
 // The bytes of a part.
 fn part_of(s: &[u8], p: Span) -> &[u8]
-    requires { ⌜ p .at + p .len ≤ length (now s) ⌝ }
+    requires { ⌜ placeOf p + sizeOf p ≤ length (now s) ⌝ }
     ensures { λ r. ⌜ now r ≡ cut (now (s .entry)) p ⌝ }
 {
-    let at = p.at as usize;
-    let len = p.len as usize;
+    let at = (p / 65536) as usize;
+    let len = (p % 65536) as usize;
     let end = at + len;
     &s[at..end]
 }

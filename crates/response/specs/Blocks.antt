@@ -9,7 +9,7 @@ use lib.ListN.{length, length-append}
 use lib.Dec.{eqb}
 use borrow.Author.Tests.{eq-eqb, ne-eqb}
 use Rattle.scan.specs.Bools.{known}
-use Rattle.scan.specs.declared.Span.{Span}
+use Rattle.scan.specs.Grammar.{sizeOf, Span}
 use Rattle.fields.specs.Names.{sender, receiver, number, sector}
 use Rattle.types.specs.declared.Number.{Number}
 use Rattle.message.specs.declared.Kind.the-variants.{Rla, Lam, Lrm}
@@ -60,12 +60,12 @@ unfolding hyphened
 hyphen-short [] = omega arith
 hyphen-short (x ∷ s) = omega arith
 
-led-hyphened : (w : List ℕ) (q : Span) → length (cut w q) ≡ q .len → ledBy (45 ∷ []) w q ≡ hyphened (cut w q)
-led-hyphened w q e = go (q .len) refl
+led-hyphened : (w : List ℕ) (q : Span) → length (cut w q) ≡ sizeOf q → ledBy (45 ∷ []) w q ≡ hyphened (cut w q)
+led-hyphened w q e = go (sizeOf q) refl
   where
-    go : (k : ℕ) → q .len ≡ k → ledBy (45 ∷ []) w q ≡ hyphened (cut w q)
-    go zero h = none-given (q .len ∷ []) (45 ∷ cut w q) (omega (arith, h)) ∙ sym (no-hyphen (cut w q) (e ∙ h))
-    go (suc k) h = is-given (q .len ∷ []) (45 ∷ cut w q) (omega (arith, h)) ∙ sym (its-hyphen (cut w q) (omega (arith, e, h)))
+    go : (k : ℕ) → sizeOf q ≡ k → ledBy (45 ∷ []) w q ≡ hyphened (cut w q)
+    go zero h = none-given (sizeOf q ∷ []) (45 ∷ cut w q) (omega (arith, h)) ∙ sym (no-hyphen (cut w q) (e ∙ h))
+    go (suc k) h = is-given (sizeOf q ∷ []) (45 ∷ cut w q) (omega (arith, h)) ∙ sym (its-hyphen (cut w q) (omega (arith, e, h)))
 
 -- THE TEXTS
 

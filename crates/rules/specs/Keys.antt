@@ -6,7 +6,7 @@ use mathlib.Core.List.{List}
 use Prim.Native.Nat.{ℕ}
 use lib.Dec.{eqb}
 use borrow.Author.Tests.{eqb-true, eqb-false}
-use Rattle.scan.specs.declared.Span.{Span}
+use Rattle.scan.specs.Grammar.{sizeOf, Span}
 use Rattle.message.specs.declared.Verdict.the-variants.{Read}
 use Rattle.message.specs.declared.Record.{Record}
 use Rattle.message.specs.Record.{isChg}
@@ -29,7 +29,7 @@ pub record KeyInside (w : List ℕ) (k : KeyParts) : Type 0 where
 
 -- a part of a field 22 where it is given, else the message's own
 unfoldable pub orPart : Span → Span → Span
-orPart c own = cond (eqb (c .len) 0) own c
+orPart c own = cond (eqb (sizeOf c) 0) own c
 
 abbrev pub oldParts : Record → KeyParts
 oldParts r = record { aircraft = r .parts .own .aircraft; departure = r .parts .own .departure; destination = r .parts .own .destination }
@@ -47,13 +47,13 @@ newParts r = cond (isChg (r .kind)) (changedParts r) (oldParts r)
 -- WHAT THEIR BYTES ARE
 
 -- either of two parts is chosen
-pub or-part : (P : Span → Type 0) (c own : Span) → (c .len ≡ 0 → P own) → ((c .len ≡ 0 → ⊥) → P c) → P (orPart c own)
+pub or-part : (P : Span → Type 0) (c own : Span) → (sizeOf c ≡ 0 → P own) → ((sizeOf c ≡ 0 → ⊥) → P c) → P (orPart c own)
 unfolding orPart
-or-part P c own f g = go (eqb (c .len) 0) refl
+or-part P c own f g = go (eqb (sizeOf c) 0) refl
   where
-    go : (b : Bool) → eqb (c .len) 0 ≡ b → P (cond b own c)
-    go true e = f (eqb-true (c .len) 0 e)
-    go false e = g (eqb-false (c .len) 0 e)
+    go : (b : Bool) → eqb (sizeOf c) 0 ≡ b → P (cond b own c)
+    go true e = f (eqb-true (sizeOf c) 0 e)
+    go false e = g (eqb-false (sizeOf c) 0 e)
 
 pub part-inside : (w : List ℕ) (c own : Span) → Within w c → Within w own → Inside w (orPart c own)
 part-inside w c own i j = or-part (Inside w) c own (λ e. inr j) (λ e. inr i)

@@ -179,7 +179,7 @@ pub fn directed(w: &[u8], r: Record, h: Head) -> bool
 fn or_part(c: Span, own: Span) -> Span
     ensures { λ p. ⌜ p ≡ orPart c own ⌝ }
 {
-    if c.len == 0 {
+    if c % 65536 == 0 {
         return own;
     }
     c
@@ -189,14 +189,10 @@ fn or_part(c: Span, own: Span) -> Span
 fn old_parts(r: Record) -> KeyParts
     ensures { λ p. ⌜ p ≡ oldParts r ⌝ }
 {
-    let o = r.parts.own;
-    let a = o.aircraft;
-    let d = o.departure;
-    let e = o.destination;
     KeyParts {
-        aircraft: a,
-        departure: d,
-        destination: e,
+        aircraft: r.parts.own.aircraft,
+        departure: r.parts.own.departure,
+        destination: r.parts.own.destination,
     }
 }
 

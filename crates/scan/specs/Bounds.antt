@@ -9,11 +9,10 @@ use lib.ListN.{length, getD, take, length-append, length-take}
 use lib.Seq.{take-take, take-all, length-take-le}
 use lib.Dec.{ltb, eqb}
 use Rattle.scan.specs.declared.Scan.{Scan}
-use Rattle.scan.specs.declared.Span.{Span}
 use Rattle.scan.specs.declared.Class.{Class}
 use Rattle.scan.specs.declared.Class.the-variants.{Word, Byte}
-use Rattle.scan.specs.Grammar.{isIn, G, eps, run, words, seq, alt, part, field, Derives, Refusal, none}
-use Rattle.scan.specs.Scanner.{runAt, runScan, wordsAt, wordsScan, leads, scan, scanAt, among, occurs, between, spanBy, spanOf, held, between16, spot}
+use Rattle.scan.specs.Grammar.{Span, span, placeOf, sizeOf, isIn, G, eps, run, words, seq, alt, part, field, Derives, Refusal, none}
+use Rattle.scan.specs.Scanner.{runAt, runScan, wordsAt, wordsScan, leads, scan, scanAt, among, occurs, between, spanBy, spanOf, between16, spot}
 use Rattle.scan.specs.Tests.{good, longest}
 use Rattle.scan.specs.Theory.{skip, place}
 use Rattle.scan.specs.Parts.{longer-is}
@@ -87,9 +86,9 @@ pub scan-short : (g : G) (s : List ℕ) (r : Scan) → scan g s r .next ≤ r .n
 scan-short g s r = scan-within g s r .1
 
 abbrev Short : ℕ → ℕ → Span → Type 0
-Short k at p = (p .at ≤ at + k) × (p .len ≤ k)
+Short k at p = (placeOf p ≤ at + k) × (sizeOf p ≤ k)
 
-pub span-short : (n : ℕ) (g : G) (s : List ℕ) (r : Scan) → (spanOf n g s r .at ≤ r .next + longest g) × (spanOf n g s r .len ≤ longest g)
+pub span-short : (n : ℕ) (g : G) (s : List ℕ) (r : Scan) → (placeOf (spanOf n g s r) ≤ r .next + longest g) × (sizeOf (spanOf n g s r) ≤ longest g)
 unfolding longest spanBy between
 span-short n eps s r = (omega arith, omega arith)
 span-short n (run c lo hi) s r = (omega arith, omega arith)
@@ -108,49 +107,44 @@ span-short n (part m g) s r =
     let P : Span → Type 0 = Short (longest g) (r .next) in
     let q : Scan = scan g s r in
     let h = scan-short g s r in
-    let p : Span = record { at = r .next; len = q .next - r .next } in
+    let p : Span = span (r .next) (q .next - r .next) in
     either P (eqb n m) (between r q) none (either P (q .ok) p none (omega arith, omega arith) (omega arith, omega arith)) (omega arith, omega arith)
 span-short n (field ns g) s r = either (Short (longest g) (r .next)) (among n ns) (spanOf n g s r) none (span-short n g s r) (omega arith, omega arith)
 
--- sixteen bits hold the parts of a text that is not too long
-pub held-same : (n : ℕ) (g : G) (s : List ℕ) (r : Scan) → r .next + longest g < 65536 → held (spanOf n g s r) ≡ spanOf n g s r
-held-same n g s r h =
-    let p : Span = spanOf n g s r in
-    let l = span-short n g s r in
-    let a : p .at % 65536 ≡ p .at = omega arith in
-    let b : p .len % 65536 ≡ p .len = omega arith in
-    λ i. record { at = a i; len = b i }
-
-held-cond : (b : Bool) (x y : Span) → held (cond b x y) ≡ cond b (held x) (held y)
-held-cond true x y = refl
-held-cond false x y = refl
-
-pub spot-held : (n : ℕ) (g : G) (s : List ℕ) (r : Scan) → spot n g s r ≡ held (spanOf n g s r)
-unfolding spanBy between16
-spot-held n eps s r = refl
-spot-held n (run c lo hi) s r = refl
-spot-held n (words k) s r = refl
-spot-held n (seq a b) s r = rw (spot-held n a s r, spot-held n b s (scan a s r)) (sym (held-cond (occurs n a) _ _))
-spot-held n (alt a b) s r = rw (spot-held n a s r, spot-held n b s r) (sym (held-cond (leads (scan a s r) (scan b s r)) _ _))
-spot-held n (part m g) s r = sym (held-cond (eqb n m) _ _)
-spot-held n (field ns g) s r = rw (spot-held n g s r) (sym (held-cond (among n ns) _ _))
-
+-- 32 bits hold the parts of a text that is not too long
 pub spot-same : (n : ℕ) (g : G) (s : List ℕ) (r : Scan) → r .next + longest g < 65536 → spot n g s r ≡ spanOf n g s r
-spot-same n g s r h = spot-held n g s r ∙ held-same n g s r h
+unfolding longest spanBy between between16
+spot-same n eps s r h = refl
+spot-same n (run c lo hi) s r h = refl
+spot-same n (words k) s r h = refl
+spot-same n (seq a b) s r h = rw (spot-same n a s r (omega arith), spot-same n b s (scan a s r) (omega (arith, scan-short a s r)))
+spot-same n (alt a b) s r h = rw (spot-same n a s r (omega arith), spot-same n b s r (omega arith))
+spot-same n (part m g) s r h =
+    let q : Scan = scan g s r in
+    let l = scan-short g s r in
+    let a : r .next % 65536 ≡ r .next = omega arith in
+    let b : (q .next - r .next) % 65536 ≡ q .next - r .next = omega arith in
+    ap (λ (p : Span). cond (eqb n m) (cond (q .ok) p none) none) (λ i. span (a i) (b i))
+spot-same n (field ns g) s r h = rw (spot-same n g s r h)
 
 -- where the scan before is not whole, no part is there
+stays : (f : Scan → Scan → Span) → ((r q : Scan) → q .ok ≡ false → f r q ≡ none) → (n : ℕ) (g : G) (s : List ℕ) (r : Scan) → r .ok ≡ false → spanBy f n g s r ≡ none
+unfolding spanBy
+stays f z n eps s r e = refl
+stays f z n (run c lo hi) s r e = refl
+stays f z n (words k) s r e = refl
+stays f z n (seq a b) s r e = either (λ (p : Span). p ≡ none) (occurs n a) _ _ (stays f z n a s r e) (rw (skip a s r e) (stays f z n b s r e))
+stays f z n (alt a b) s r e = either (λ (p : Span). p ≡ none) (leads (scan a s r) (scan b s r)) _ _ (stays f z n a s r e) (stays f z n b s r e)
+stays f z n (part m g) s r e = rw (skip g s r e) (either (λ (p : Span). p ≡ none) (eqb n m) (f r r) none (z r r e) refl)
+stays f z n (field ns g) s r e = either (λ (p : Span). p ≡ none) (among n ns) _ _ (stays f z n g s r e) refl
+
 pub span-stays : (n : ℕ) (g : G) (s : List ℕ) (r : Scan) → r .ok ≡ false → spanOf n g s r ≡ none
-unfolding spanBy between
-span-stays n eps s r e = refl
-span-stays n (run c lo hi) s r e = refl
-span-stays n (words k) s r e = refl
-span-stays n (seq a b) s r e = either (λ (p : Span). p ≡ none) (occurs n a) _ _ (span-stays n a s r e) (rw (skip a s r e) (span-stays n b s r e))
-span-stays n (alt a b) s r e = either (λ (p : Span). p ≡ none) (leads (scan a s r) (scan b s r)) _ _ (span-stays n a s r e) (span-stays n b s r e)
-span-stays n (part m g) s r e = rw (skip g s r e, e) (either (λ (p : Span). p ≡ none) (eqb n m) none none refl refl)
-span-stays n (field ns g) s r e = either (λ (p : Span). p ≡ none) (among n ns) _ _ (span-stays n g s r e) refl
+unfolding between
+span-stays = stays between (λ r q e. rw e)
 
 pub spot-stays : (n : ℕ) (g : G) (s : List ℕ) (r : Scan) → r .ok ≡ false → spot n g s r ≡ none
-spot-stays n g s r e = spot-held n g s r ∙ ap held (span-stays n g s r e)
+unfolding between16
+spot-stays = stays between16 (λ r q e. rw e)
 
 -- A TEXT IS JUDGED BY A BOUNDED BEGINNING
 

@@ -4,10 +4,9 @@ use mathlib.Core.Path.{_≡_}
 use mathlib.Core.Logic.{_⊎_}
 use mathlib.Core.Bool.{Bool, true, false, cond, _&&_, _||_}
 use mathlib.Core.List.{List, [], _∷_, _++_}
-use Prim.Native.Nat.{ℕ, _+_, _≤_}
+use Prim.Native.Nat.{ℕ, _+_, _*_, _/_, _%_, _≤_}
 use lib.ListN.{length, take}
 use lib.Dec.{leb, eqb}
-use Rattle.scan.specs.declared.Span.{Span}
 use Rattle.scan.specs.declared.Class.{Class}
 use Rattle.scan.specs.declared.Class.the-variants.{Letter, Digit, Octal, Alnum, Word, Byte, Range, Two, Of}
 
@@ -79,13 +78,26 @@ pub record Refusal (g : G) (s : List ℕ) (n : ℕ) : Type 0 where
   pub viable : Viable g (take n s)
   pub longest : (m : ℕ) → m ≤ length s → Viable g (take m s) → m ≤ n
 
+-- where a part stands and its length, as one number, which the code has too; no text that is read is as long as 65,536 bytes
+abbrev pub Span : Type 0
+Span = ℕ
+
+abbrev pub span : ℕ → ℕ → Span
+span at len = at * 65536 + len
+
+abbrev pub placeOf : Span → ℕ
+placeOf p = p / 65536
+
+abbrev pub sizeOf : Span → ℕ
+sizeOf p = p % 65536
+
 -- a part of a text: its name, where it stands and its length
 pub record Part : Type 0 where
   pub name : ℕ
   pub span : Span
 
 abbrev pub placed : ℕ → ℕ → ℕ → Part
-placed n at len = record { name = n; span = record { at = at; len = len } }
+placed n at len = record { name = n; span = span at len }
 
 -- w, which stands at `at` of a text, is derived, and ps are its parts in their order
 abbrev pub Reads : G → ℕ → List ℕ → List Part → Type 0
@@ -100,7 +112,7 @@ Reads (field ns g) at w ps = Reads g at w ps
 
 -- an absent part
 abbrev pub none : Span
-none = record { at = 0; len = 0 }
+none = 0
 
 -- where the part n stands
 abbrev pub look : ℕ → List Part → Span

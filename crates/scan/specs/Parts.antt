@@ -11,9 +11,8 @@ use lib.Dec.{ltb, eqb}
 use borrow.Author.Tests.{ltb-false, leb-true, eqb-true, not-true}
 use Rattle.scan.specs.Bools.{and-l, and-r, or-split, or-l, or-r, neither, known}
 use Rattle.scan.specs.declared.Scan.{Scan}
-use Rattle.scan.specs.declared.Span.{Span}
 use Rattle.scan.specs.declared.Class.{Class}
-use Rattle.scan.specs.Grammar.{Ranges, has, ranges, isIn, all, text, G, eps, run, words, seq, alt, part, field, Derives, Part, placed, Reads, none, look}
+use Rattle.scan.specs.Grammar.{Span, placeOf, sizeOf, Ranges, has, ranges, isIn, all, text, G, eps, run, words, seq, alt, part, field, Derives, Part, placed, Reads, none, look}
 use Rattle.scan.specs.Scanner.{longer, leads, scan, from, scanAt, among, occurs, between, spanBy, spanOf}
 use Rattle.scan.specs.Tests.{first, apart, follow, good, fixed, heads, differ, offLeaf, off, names, strange, covers, plain}
 use Rattle.scan.specs.Theory.{apart-off, Cut, same, over, under, cut, Parted, null-sound, first-sound, good-a, good-b, parted-of, right, part-of, ok-before}
@@ -343,7 +342,7 @@ found (field ns g) e f s at o =
 
 -- a part ends at a place or before
 abbrev Ends : ℕ → Span → Type 0
-Ends n p = p .at + p .len ≤ n
+Ends n p = placeOf p + sizeOf p ≤ n
 
 abbrev AllEnd : ℕ → List Part → Type 0
 AllEnd n [] = Unit
@@ -375,5 +374,5 @@ look-end : (n m : ℕ) (ps : List Part) → AllEnd m ps → Ends m (look n ps)
 look-end n m [] h = omega arith
 look-end n m (p ∷ ps) h = ⊎-elim (λ e. rw e (h .0)) (λ e. rw e (look-end n m ps (h .1))) (known (eqb n (p .name)))
 
-pub part-within : (g : G) (w : List ℕ) (ps : List Part) (n : ℕ) → Reads g 0 w ps → look n ps .at + look n ps .len ≤ length w
+pub part-within : (g : G) (w : List ℕ) (ps : List Part) (n : ℕ) → Reads g 0 w ps → placeOf (look n ps) + sizeOf (look n ps) ≤ length w
 part-within g w ps n r = omega (arith, look-end n (0 + length w) ps (all-end g 0 w ps r))

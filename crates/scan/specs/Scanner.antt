@@ -6,10 +6,9 @@ use Prim.Native.Nat.{ℕ, zero, suc, _+_, _-_, _%_}
 use lib.ListN.{length, getD}
 use lib.Dec.{leb, ltb, eqb}
 use Rattle.scan.specs.declared.Scan.{Scan}
-use Rattle.scan.specs.declared.Span.{Span}
 use Rattle.scan.specs.declared.Class.{Class}
 use Rattle.scan.specs.declared.Class.the-variants.{Word, Byte}
-use Rattle.scan.specs.Grammar.{isIn, G, eps, run, words, seq, alt, part, field, none}
+use Rattle.scan.specs.Grammar.{isIn, G, eps, run, words, seq, alt, part, field, Span, span, none}
 
 unfoldable pub runAt : Class → ℕ → List ℕ → ℕ → ℕ
 runAt c zero s at = at
@@ -72,7 +71,7 @@ occurs n (field ns g) = among n ns
 
 -- what lies between two scans, absent where the second is not whole
 unfoldable pub between : Scan → Scan → Span
-between r q = cond (q .ok) (record { at = r .next; len = q .next - r .next }) none
+between r q = cond (q .ok) (span (r .next) (q .next - r .next)) none
 
 -- where the scan of a grammar finds the part n, cut out by f
 unfoldable pub spanBy : (Scan → Scan → Span) → ℕ → G → List ℕ → Scan → Span
@@ -87,12 +86,9 @@ spanBy f n (field ns g) s r = cond (among n ns) (spanBy f n g s r) none
 abbrev pub spanOf : ℕ → G → List ℕ → Scan → Span
 spanOf n g s r = spanBy between n g s r
 
--- the same in the sixteen bits of a struct's numbers, as the code has it
-abbrev pub held : Span → Span
-held p = record { at = p .at % 65536; len = p .len % 65536 }
-
+-- the same in the 32 bits that the code has for it
 unfoldable pub between16 : Scan → Scan → Span
-between16 r q = held (between r q)
+between16 r q = cond (q .ok) (span (r .next % 65536) ((q .next - r .next) % 65536)) none
 
 abbrev pub spot : ℕ → G → List ℕ → Scan → Span
 spot n g s r = spanBy between16 n g s r

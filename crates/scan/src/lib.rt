@@ -2,7 +2,7 @@
 ghost use mathlib.Core.Path.{_≡_};
 ghost use mathlib.Core.Bool.{cond, false};
 ghost use Prim.Native.Nat.{_≤_, _<_};
-ghost use Rattle.scan.specs.Grammar.{isIn, all, none as noneOf, run as runG};
+ghost use Rattle.scan.specs.Grammar.{isIn, all, none as noneOf, placeOf, sizeOf, run as runG};
 ghost use Rattle.scan.specs.declared.Class.the-variants.{Word};
 ghost use Rattle.scan.specs.Laws.{Whole};
 ghost use Rattle.scan.specs.Scanner.{runAt, scan, longer as longerOf, leads as leadsOf, between16};
@@ -14,11 +14,9 @@ pub struct Scan {
     pub ok: bool,
 }
 
-// Where a part of a text stands. An absent part is at 0 and has length 0.
-pub struct Span {
-    pub at: u16,
-    pub len: u16,
-}
+// Where a part of a text stands and its length, as one number: a record has 54 of them, and numbers are handed on at less cost
+// than structs. An absent part is 0.
+pub type Span = u32;
 
 // A class of bytes.
 pub enum Class {
@@ -320,7 +318,21 @@ pub fn leads(a: Scan, b: Scan) -> bool
 pub fn none() -> Span
     ensures { λ r. ⌜ r ≡ noneOf ⌝ }
 {
-    Span { at: 0, len: 0 }
+    0
+}
+
+// Where a part stands.
+pub fn place_of(p: Span) -> usize
+    ensures { λ r. ⌜ (r ≡ placeOf p) × (r < 65536) ⌝ }
+{
+    (p / 65536) as usize
+}
+
+// Its length.
+pub fn size_of(p: Span) -> usize
+    ensures { λ r. ⌜ (r ≡ sizeOf p) × (r < 65536) ⌝ }
+{
+    (p % 65536) as usize
 }
 
 // The part between two scans, absent where the second is not whole.
@@ -329,12 +341,9 @@ pub fn between(a: Scan, b: Scan) -> Span
     ensures { λ r. ⌜ r ≡ between16 a b ⌝ }
 {
     if b.ok {
-        return Span {
-            at: (a.next % 65536) as u16,
-            len: ((b.next - a.next) % 65536) as u16,
-        };
+        return (a.next % 65536 * 65536 + (b.next - a.next) % 65536) as u32;
     }
-    Span { at: 0, len: 0 }
+    0
 }
 
 // The one where the first scan leads, else the other.

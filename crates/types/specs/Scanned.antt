@@ -2,8 +2,7 @@
 use mathlib.Core.List.{List}
 use Prim.Native.Nat.{ℕ}
 use Rattle.scan.specs.declared.Scan.{Scan}
-use Rattle.scan.specs.declared.Span.{Span}
-use Rattle.scan.specs.Grammar.{G, none}
+use Rattle.scan.specs.Grammar.{Span, G, none}
 use Rattle.scan.specs.Scanner.{scan, from, scanAt, spot}
 use Rattle.fields.specs.Names as n
 use Rattle.fields.specs.Fields.{_─_, g07, g08, g09, g10}

@@ -107,15 +107,12 @@ fn opened(s: &[u8], a: u8, b: u8, c: u8) -> Heading
 {
     let n = plan_fields::number(s, opens(s, a, b, c));
     let end = n.end;
-    let sender = n.sender;
-    let receiver = n.receiver;
-    let digits = n.digits;
     Heading {
         end,
         number: Number {
-            sender,
-            receiver,
-            digits,
+            sender: n.sender,
+            receiver: n.receiver,
+            digits: n.digits,
         },
         reference: no_number(),
     }
@@ -130,16 +127,13 @@ fn referring(s: &[u8], a: u8, b: u8, c: u8) -> Heading
     let own = o.number;
     let n = plan_fields::number(s, e);
     let end = n.end;
-    let sender = n.sender;
-    let receiver = n.receiver;
-    let digits = n.digits;
     Heading {
         end,
         number: own,
         reference: Number {
-            sender,
-            receiver,
-            digits,
+            sender: n.sender,
+            receiver: n.receiver,
+            digits: n.digits,
         },
     }
 }
@@ -157,24 +151,15 @@ fn front(s: &[u8], r: Scan) -> Leading
     let d = plan_fields::field10(s, scan::byte(s, g, b'-'));
     let end = d.end;
     let mut plan = changes::no_plan();
-    let aircraft = a.aircraft;
-    plan.aircraft = aircraft;
-    let code = a.code;
-    plan.code = code;
-    let rules = b.rules;
-    plan.rules = rules;
-    let flight = b.flight;
-    plan.flight = flight;
-    let count = c.count;
-    plan.count = count;
-    let model = c.model;
-    plan.model = model;
-    let wake = c.wake;
-    plan.wake = wake;
-    let equipment = d.equipment;
-    plan.equipment = equipment;
-    let surveillance = d.surveillance;
-    plan.surveillance = surveillance;
+    plan.aircraft = a.aircraft;
+    plan.code = a.code;
+    plan.rules = b.rules;
+    plan.flight = b.flight;
+    plan.count = c.count;
+    plan.model = c.model;
+    plan.wake = c.wake;
+    plan.equipment = d.equipment;
+    plan.surveillance = d.surveillance;
     Leading { end, plan }
 }
 
@@ -184,17 +169,12 @@ fn front(s: &[u8], r: Scan) -> Leading
 fn estimated(x: Found14) -> Estimate
     ensures { λ q. ⌜ q ≡ estimateOf x ⌝ }
 {
-    let point = x.point;
-    let over = x.over;
-    let crossing = x.crossing;
-    let second = x.second;
-    let sense = x.sense;
     Estimate {
-        point,
-        over,
-        crossing,
-        second,
-        sense,
+        point: x.point,
+        over: x.over,
+        crossing: x.crossing,
+        second: x.second,
+        sense: x.sense,
     }
 }
 
@@ -240,28 +220,17 @@ fn filed(f: Leading, d: Found13, r: Found15, a: Found16, o: Found18) -> Plan
     ensures { λ q. ⌜ q ≡ filedBy f d r a o ⌝ }
 {
     let mut plan = f.plan;
-    let departure = d.departure;
-    plan.departure = departure;
-    let time = d.time;
-    plan.time = time;
-    let speed = r.speed;
-    plan.speed = speed;
-    let level = r.level;
-    plan.level = level;
-    let route = r.route;
-    plan.route = route;
-    let destination = a.destination;
-    plan.destination = destination;
-    let elapsed = a.elapsed;
-    plan.elapsed = elapsed;
-    let alternate = a.alternate;
-    plan.alternate = alternate;
-    let alternate2 = a.alternate2;
-    plan.alternate2 = alternate2;
-    let indicator = o.indicator;
-    plan.indicator = indicator;
-    let other = o.other;
-    plan.other = other;
+    plan.departure = d.departure;
+    plan.time = d.time;
+    plan.speed = r.speed;
+    plan.level = r.level;
+    plan.route = r.route;
+    plan.destination = a.destination;
+    plan.elapsed = a.elapsed;
+    plan.alternate = a.alternate;
+    plan.alternate2 = a.alternate2;
+    plan.indicator = o.indicator;
+    plan.other = o.other;
     plan
 }
 
@@ -271,17 +240,12 @@ fn current(f: Leading, departure: Span, r: Found15, destination: Span, o: Found1
 {
     let mut plan = f.plan;
     plan.departure = departure;
-    let speed = r.speed;
-    plan.speed = speed;
-    let level = r.level;
-    plan.level = level;
-    let route = r.route;
-    plan.route = route;
+    plan.speed = r.speed;
+    plan.level = r.level;
+    plan.route = r.route;
     plan.destination = destination;
-    let indicator = o.indicator;
-    plan.indicator = indicator;
-    let other = o.other;
-    plan.other = other;
+    plan.indicator = o.indicator;
+    plan.other = o.other;
     plan
 }
 

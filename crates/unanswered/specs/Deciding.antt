@@ -8,6 +8,7 @@ use native.Mathlib.Omega.{arith}
 use lib.ListN.{length, getD, take, drop, replicate, take-append-drop, length-drop}
 use lib.Seq.{drop-append-seam, length-take-le, drop-drop, take-all}
 use borrow.Author.Tests.{not-true}
+use Rattle.scan.specs.Grammar.{placeOf, sizeOf}
 use Rattle.scan.specs.Bools.{Decides, decides-as, decides-by}
 use Rattle.fields.specs.Names as n
 use Rattle.message.specs.declared.Kind.the-variants.{None}
@@ -24,10 +25,10 @@ use Rattle.unanswered.specs.Encoded.{waiting-back, proper-short}
 -- THE TEXT
 
 -- the names lie within the text
-pub sender-within : (s : List ℕ) (v : Verdict) (r : Record) → Judged s v r → r .parts .number .sender .at + r .parts .number .sender .len ≤ length s
+pub sender-within : (s : List ℕ) (v : Verdict) (r : Record) → Judged s v r → placeOf (r .parts .number .sender) + sizeOf (r .parts .number .sender) ≤ length s
 sender-within s v r j = words-within s v r (λ x. x .parts .number .sender) (λ f. (n.sender, refl)) refl j
 
-pub receiver-within : (s : List ℕ) (v : Verdict) (r : Record) → Judged s v r → r .parts .number .receiver .at + r .parts .number .receiver .len ≤ length s
+pub receiver-within : (s : List ℕ) (v : Verdict) (r : Record) → Judged s v r → placeOf (r .parts .number .receiver) + sizeOf (r .parts .number .receiver) ≤ length s
 receiver-within s v r j = words-within s v r (λ x. x .parts .number .receiver) (λ f. (n.receiver, refl)) refl j
 
 none-answers : isAnswer None ≡ true

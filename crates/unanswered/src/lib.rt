@@ -2,6 +2,7 @@
 ghost use mathlib.Core.Path.{_≡_};
 ghost use Prim.Native.Nat.{_+_, _*_, _≤_, _<_};
 ghost use lib.ListN.{length};
+ghost use Rattle.scan.specs.Grammar.{placeOf, sizeOf};
 ghost use Rattle.scan.specs.Bools.{Decides};
 ghost use Rattle.splice.specs.Splice.{splice as spliced};
 ghost use Rattle.message.specs.declared.Verdict.{Verdict};
@@ -42,11 +43,11 @@ pub fn is_answer(k: Kind) -> bool
 
 // Whether a part of a text is a name.
 fn is_part(s: &[u8], p: Span, name: &[u8]) -> bool
-    requires { ⌜ p .at + p .len ≤ length (now s) ⌝ }
+    requires { ⌜ placeOf p + sizeOf p ≤ length (now s) ⌝ }
     ensures { λ r. ⌜ Decides r (cut (now (s .entry)) p ≡ now (name .entry)) ⌝ }
 {
-    let at = p.at as usize;
-    let len = p.len as usize;
+    let at = (p / 65536) as usize;
+    let len = (p % 65536) as usize;
     let end = at + len;
     places::same(&s[at..end], name)
 }

@@ -7,8 +7,7 @@ use Prim.Native.Nat.{ℕ}
 use lib.Dec.{eqb}
 use borrow.Author.Tests.{eqb-true, eq-eqb}
 use Rattle.scan.specs.Bools.{and-l, and-r, both, or-split, known, Decides, decides-and, decides-as, decides-by, equals}
-use Rattle.scan.specs.declared.Span.{Span}
-use Rattle.scan.specs.Grammar.{Part, look}
+use Rattle.scan.specs.Grammar.{sizeOf, Span, Part, look}
 use Rattle.scan.specs.Scanner.{among}
 use Rattle.types.specs.declared.Parts.{Parts}
 use Rattle.message.specs.declared.Kind.{Kind}
@@ -153,7 +152,7 @@ figures-same a b o f c s h xo xf xc xs xh =
 abbrev pub evenly : Bool → List Part → List Part → Bool
 evenly b [] qs = b
 evenly b (p ∷ ps) [] = b
-evenly b (p ∷ ps) (q ∷ qs) = evenly (b && eqb (p .span .len) (q .span .len)) ps qs
+evenly b (p ∷ ps) (q ∷ qs) = evenly (b && eqb (sizeOf (p .span)) (sizeOf (q .span))) ps qs
 
 pub evenly-on : (b : Bool) (ps qs : List Part) → evenly b ps qs ≡ b && evenly true ps qs
 evenly-on true ps qs = refl
@@ -169,26 +168,26 @@ all-even a b m r o c t em er eo ec et =
     (λ i. z i && et i) ∙ sym (evenly-on (evenly true (numberParts 0 0 0 (a .number) ++ (numberParts 0 0 0 (a .reference) ++ (planParts 0 (a .own) ++ planParts 0 (a .changes)))) (numberParts 0 0 0 (b .number) ++ (numberParts 0 0 0 (b .reference) ++ (planParts 0 (b .own) ++ planParts 0 (b .changes))))) (restParts a) (restParts b))
 
 module _ (f g : ℕ → Span) where
-  evenly-yes : (ns : List ℕ) → evenly true (listed f ns) (listed g ns) ≡ true → (k : ℕ) → among k ns ≡ true → f k .len ≡ g k .len
+  evenly-yes : (ns : List ℕ) → evenly true (listed f ns) (listed g ns) ≡ true → (k : ℕ) → among k ns ≡ true → sizeOf (f k) ≡ sizeOf (g k)
   unfolding among
   evenly-yes [] e k h = absurd (false≢true h)
   evenly-yes (m ∷ ns) e k h =
-      let z : eqb (f m .len) (g m .len) && evenly true (listed f ns) (listed g ns) ≡ true = sym (evenly-on (eqb (f m .len) (g m .len)) (listed f ns) (listed g ns)) ∙ e in
+      let z : eqb (sizeOf (f m)) (sizeOf (g m)) && evenly true (listed f ns) (listed g ns) ≡ true = sym (evenly-on (eqb (sizeOf (f m)) (sizeOf (g m))) (listed f ns) (listed g ns)) ∙ e in
       ⊎-elim
-      (λ y. subst (λ (n : ℕ). f n .len ≡ g n .len) (sym (eqb-true k m y)) (eqb-true (f m .len) (g m .len) (and-l (eqb (f m .len) (g m .len)) (evenly true (listed f ns) (listed g ns)) z)))
-      (λ y. evenly-yes ns (and-r (eqb (f m .len) (g m .len)) (evenly true (listed f ns) (listed g ns)) z) k y)
+      (λ y. subst (λ (n : ℕ). sizeOf (f n) ≡ sizeOf (g n)) (sym (eqb-true k m y)) (eqb-true (sizeOf (f m)) (sizeOf (g m)) (and-l (eqb (sizeOf (f m)) (sizeOf (g m))) (evenly true (listed f ns) (listed g ns)) z)))
+      (λ y. evenly-yes ns (and-r (eqb (sizeOf (f m)) (sizeOf (g m))) (evenly true (listed f ns) (listed g ns)) z) k y)
       (or-split (eqb k m) (among k ns) h)
 
-  evenly-no : (ns : List ℕ) → ((k : ℕ) → f k .len ≡ g k .len) → evenly true (listed f ns) (listed g ns) ≡ true
+  evenly-no : (ns : List ℕ) → ((k : ℕ) → sizeOf (f k) ≡ sizeOf (g k)) → evenly true (listed f ns) (listed g ns) ≡ true
   evenly-no [] h = refl
-  evenly-no (m ∷ ns) h = evenly-on (eqb (f m .len) (g m .len)) (listed f ns) (listed g ns) ∙ both (eqb (f m .len) (g m .len)) (evenly true (listed f ns) (listed g ns)) (eq-eqb (f m .len) (g m .len) (h m)) (evenly-no ns h)
+  evenly-no (m ∷ ns) h = evenly-on (eqb (sizeOf (f m)) (sizeOf (g m))) (listed f ns) (listed g ns) ∙ both (eqb (sizeOf (f m)) (sizeOf (g m))) (evenly true (listed f ns) (listed g ns)) (eq-eqb (sizeOf (f m)) (sizeOf (g m)) (h m)) (evenly-no ns h)
 
 pub lengths-same : (a b : Record) → Decides (evenly true (partsIn (a .parts)) (partsIn (b .parts))) ((k : ℕ) → sizes a k ≡ sizes b k)
 lengths-same a b = record {
   yes = λ e k.
       ⊎-elim
       (λ h. evenly-yes (λ m. look m (partsIn (a .parts))) (λ m. look m (partsIn (b .parts))) partNames e k h)
-      (λ h. ap (λ (p : Span). p .len) (nameless a k h ∙ sym (nameless b k h)))
+      (λ h. ap (λ (p : Span). sizeOf p) (nameless a k h ∙ sym (nameless b k h)))
       (known (among k partNames));
   no = λ h. evenly-no (λ m. look m (partsIn (a .parts))) (λ m. look m (partsIn (b .parts))) partNames h;
 }

@@ -8,7 +8,7 @@ use native.Mathlib.Omega.{arith}
 use lib.ListN.{length, take, drop}
 use lib.Seq.{length-take-le, take-append-seam}
 use borrow.Author.Tests.{eqb-true}
-use Rattle.scan.specs.declared.Span.{Span}
+use Rattle.scan.specs.Grammar.{sizeOf, Span}
 use Rattle.scan.specs.Scanner.{among}
 use Rattle.scan.specs.Tests.{covers}
 use Rattle.scan.specs.Parts.{covers-sound}
@@ -58,7 +58,7 @@ each-inside : (d : List ℕ) (r : Record) → AllInside d (spans (r .parts)) →
 each-inside d r h k =
     ⊎-elim
     (λ e. each-at d (spanOf r) orderedNames h k (covers-sound orderedNames partNames ordered-all k e))
-    (λ e. inl (ap (λ (p : Span). p .len) (nameless r k e)))
+    (λ e. inl (ap (λ (p : Span). sizeOf p) (nameless r k e)))
     (known (among k partNames))
 
 -- a text was laid out in a buffer of 1077 bytes

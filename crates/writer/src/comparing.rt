@@ -97,34 +97,34 @@ fn same_figures(a: Figures, b: Figures) -> bool
 fn same_number(a: Number, b: Number) -> bool
     ensures { λ r. ⌜ r ≡ evenly true (numberParts 0 0 0 a) (numberParts 0 0 0 b) ⌝ }
 {
-    (a.sender.len == b.sender.len)
-        & (a.receiver.len == b.receiver.len)
-        & (a.digits.len == b.digits.len)
+    (a.sender % 65536 == b.sender % 65536)
+        & (a.receiver % 65536 == b.receiver % 65536)
+        & (a.digits % 65536 == b.digits % 65536)
 }
 
 fn same_plan(a: Plan, b: Plan) -> bool
     ensures { λ r. ⌜ r ≡ evenly true (planParts 0 a) (planParts 0 b) ⌝ }
 {
-    (a.aircraft.len == b.aircraft.len)
-        & (a.code.len == b.code.len)
-        & (a.rules.len == b.rules.len)
-        & (a.flight.len == b.flight.len)
-        & (a.count.len == b.count.len)
-        & (a.model.len == b.model.len)
-        & (a.wake.len == b.wake.len)
-        & (a.equipment.len == b.equipment.len)
-        & (a.surveillance.len == b.surveillance.len)
-        & (a.departure.len == b.departure.len)
-        & (a.time.len == b.time.len)
-        & (a.speed.len == b.speed.len)
-        & (a.level.len == b.level.len)
-        & (a.route.len == b.route.len)
-        & (a.destination.len == b.destination.len)
-        & (a.elapsed.len == b.elapsed.len)
-        & (a.alternate.len == b.alternate.len)
-        & (a.alternate2.len == b.alternate2.len)
-        & (a.indicator.len == b.indicator.len)
-        & (a.other.len == b.other.len)
+    (a.aircraft % 65536 == b.aircraft % 65536)
+        & (a.code % 65536 == b.code % 65536)
+        & (a.rules % 65536 == b.rules % 65536)
+        & (a.flight % 65536 == b.flight % 65536)
+        & (a.count % 65536 == b.count % 65536)
+        & (a.model % 65536 == b.model % 65536)
+        & (a.wake % 65536 == b.wake % 65536)
+        & (a.equipment % 65536 == b.equipment % 65536)
+        & (a.surveillance % 65536 == b.surveillance % 65536)
+        & (a.departure % 65536 == b.departure % 65536)
+        & (a.time % 65536 == b.time % 65536)
+        & (a.speed % 65536 == b.speed % 65536)
+        & (a.level % 65536 == b.level % 65536)
+        & (a.route % 65536 == b.route % 65536)
+        & (a.destination % 65536 == b.destination % 65536)
+        & (a.elapsed % 65536 == b.elapsed % 65536)
+        & (a.alternate % 65536 == b.alternate % 65536)
+        & (a.alternate2 % 65536 == b.alternate2 % 65536)
+        & (a.indicator % 65536 == b.indicator % 65536)
+        & (a.other % 65536 == b.other % 65536)
 }
 
 fn same_rest(a: Parts, b: Parts) -> bool
@@ -132,14 +132,14 @@ fn same_rest(a: Parts, b: Parts) -> bool
 {
     let e = a.estimate;
     let f = b.estimate;
-    (e.point.len == f.point.len)
-        & (e.over.len == f.over.len)
-        & (e.crossing.len == f.crossing.len)
-        & (e.second.len == f.second.len)
-        & (e.sense.len == f.sense.len)
-        & (a.sector.len == b.sector.len)
-        & (a.track.len == b.track.len)
-        & (a.reason.len == b.reason.len)
+    (e.point % 65536 == f.point % 65536)
+        & (e.over % 65536 == f.over % 65536)
+        & (e.crossing % 65536 == f.crossing % 65536)
+        & (e.second % 65536 == f.second % 65536)
+        & (e.sense % 65536 == f.sense % 65536)
+        & (a.sector % 65536 == b.sector % 65536)
+        & (a.track % 65536 == b.track % 65536)
+        & (a.reason % 65536 == b.reason % 65536)
 }
 
 fn same_lengths(a: Parts, b: Parts) -> bool

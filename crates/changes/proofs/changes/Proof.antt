@@ -20,4 +20,4 @@ changes-spec =
     (λ c. number-missed key07 rest07 from08 _ _ _ (c .before .before .before .before .key .ensures) (not-true _ (c .before .before .if2 .taken)) _ _ (c .before .from08 .ensures) (c .past .ensures) ∙ named22 _ _)
     (λ c κs. tt)
     (λ c κs. tt)
-    (λ c. with-07 _ _ _ _ _ (c .before .before .before .before .before .before .before .key .ensures) (c .before .before .before .before .field07 .ensures) (c .before .before .no-plan .ensures) ∙ number-there key07 rest07 from08 _ _ _ (c .before .before .before .before .before .before .before .key .ensures) good-07 good-from08 apart-07 refl (not-false _ (c .before .before .before .before .before .if2 .left)) ∙ named22 _ _))
+    (λ c. with-07 _ _ _ _ _ (c .before .before .before .before .before .key .ensures) (c .before .before .field07 .ensures) (c .no-plan .ensures) ∙ number-there key07 rest07 from08 _ _ _ (c .before .before .before .before .before .key .ensures) good-07 good-from08 apart-07 refl (not-false _ (c .before .before .before .if2 .left)) ∙ named22 _ _))

@@ -21,4 +21,4 @@ from08-spec =
     (λ c. number-missed key08 rest08 from09 _ _ _ (c .before .before .before .before .key .ensures) (not-true _ (c .before .before .if1 .taken)) _ _ (c .before .from09 .ensures) (c .past .ensures))
     (λ c κs. tt)
     (λ c κs. tt)
-    (λ c. let f = is08 _ _ _ _ (c .before .before .before .before .before .before .before .before .before .key .ensures) (c .before .before .before .before .before .before .field08 .ensures) in ascend key08 (g08 amended) (opt (byte 45 ⨾ from09)) _ _ (with08 (c .before .before .before .before .before .before .field08 .result)) (adds08 _ _ _ f) _ _ (ap (λ (x : Found08). x .end) f) (c .before .before .before .before .after08 .ensures) ∙ number-there key08 rest08 from09 _ _ _ (c .before .before .before .before .before .before .before .before .before .key .ensures) good-08 good-from09 apart-08 refl (not-false _ (c .before .before .before .before .before .before .before .if1 .left))))
+    (λ c. let f = is08 _ _ _ _ (c .before .before .before .before .before .before .before .key .ensures) (c .before .before .before .before .field08 .ensures) in ascend key08 (g08 amended) (opt (byte 45 ⨾ from09)) _ _ (with08 (c .before .before .before .before .field08 .result)) (adds08 _ _ _ f) _ _ (ap (λ (x : Found08). x .end) f) (c .before .before .after08 .ensures) ∙ number-there key08 rest08 from09 _ _ _ (c .before .before .before .before .before .before .before .key .ensures) good-08 good-from09 apart-08 refl (not-false _ (c .before .before .before .before .before .if1 .left))))

@@ -21,4 +21,4 @@ from09-spec =
     (λ c. number-missed key09 rest09 from10 _ _ _ (c .before .before .before .before .key .ensures) (not-true _ (c .before .before .if1 .taken)) _ _ (c .before .from10 .ensures) (c .past .ensures))
     (λ c κs. tt)
     (λ c κs. tt)
-    (λ c. let f = is09 _ _ _ _ (c .before .before .before .before .before .before .before .before .before .before .key .ensures) (c .before .before .before .before .before .before .before .field09 .ensures) in ascend key09 (g09 amended) (opt (byte 45 ⨾ from10)) _ _ (with09 (c .before .before .before .before .before .before .before .field09 .result)) (adds09 _ _ _ f) _ _ (ap (λ (x : Found09). x .end) f) (c .before .before .before .before .before .after09 .ensures) ∙ number-there key09 rest09 from10 _ _ _ (c .before .before .before .before .before .before .before .before .before .before .key .ensures) good-09 good-from10 apart-09 refl (not-false _ (c .before .before .before .before .before .before .before .before .if1 .left))))
+    (λ c. let f = is09 _ _ _ _ (c .before .before .before .before .before .before .before .key .ensures) (c .before .before .before .before .field09 .ensures) in ascend key09 (g09 amended) (opt (byte 45 ⨾ from10)) _ _ (with09 (c .before .before .before .before .field09 .result)) (adds09 _ _ _ f) _ _ (ap (λ (x : Found09). x .end) f) (c .before .before .after09 .ensures) ∙ number-there key09 rest09 from10 _ _ _ (c .before .before .before .before .before .before .before .key .ensures) good-09 good-from10 apart-09 refl (not-false _ (c .before .before .before .before .before .if1 .left))))

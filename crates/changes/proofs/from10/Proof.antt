@@ -21,4 +21,4 @@ from10-spec =
     (λ c. number-missed key10 rest10 from13 _ _ _ (c .before .before .before .before .key .ensures) (not-true _ (c .before .before .if1 .taken)) _ _ (c .before .from13 .ensures) (c .past .ensures))
     (λ c κs. tt)
     (λ c κs. tt)
-    (λ c. let f = is10 _ _ _ _ (c .before .before .before .before .before .before .before .before .before .key .ensures) (c .before .before .before .before .before .before .field10 .ensures) in ascend key10 (g10 amended) (opt (byte 45 ⨾ from13)) _ _ (with10 (c .before .before .before .before .before .before .field10 .result)) (adds10 _ _ _ f) _ _ (ap (λ (x : Found10). x .end) f) (c .before .before .before .before .after10 .ensures) ∙ number-there key10 rest10 from13 _ _ _ (c .before .before .before .before .before .before .before .before .before .key .ensures) good-10 good-from13 apart-10 refl (not-false _ (c .before .before .before .before .before .before .before .if1 .left))))
+    (λ c. let f = is10 _ _ _ _ (c .before .before .before .before .before .before .before .key .ensures) (c .before .before .before .before .field10 .ensures) in ascend key10 (g10 amended) (opt (byte 45 ⨾ from13)) _ _ (with10 (c .before .before .before .before .field10 .result)) (adds10 _ _ _ f) _ _ (ap (λ (x : Found10). x .end) f) (c .before .before .after10 .ensures) ∙ number-there key10 rest10 from13 _ _ _ (c .before .before .before .before .before .before .before .key .ensures) good-10 good-from13 apart-10 refl (not-false _ (c .before .before .before .before .before .if1 .left))))

@@ -21,4 +21,4 @@ from13-spec =
     (λ c. number-missed key13 rest13 from15 _ _ _ (c .before .before .before .before .key .ensures) (not-true _ (c .before .before .if1 .taken)) _ _ (c .before .from15 .ensures) (c .past .ensures))
     (λ c κs. tt)
     (λ c κs. tt)
-    (λ c. let f = is13 _ _ _ _ (c .before .before .before .before .before .before .before .before .before .key .ensures) (c .before .before .before .before .before .before .field13 .ensures) in ascend key13 (g13 amended) (opt (byte 45 ⨾ from15)) _ _ (with13 (c .before .before .before .before .before .before .field13 .result)) (adds13 _ _ _ f) _ _ (ap (λ (x : Found13). x .end) f) (c .before .before .before .before .after13 .ensures) ∙ number-there key13 rest13 from15 _ _ _ (c .before .before .before .before .before .before .before .before .before .key .ensures) good-13 good-from15 apart-13 refl (not-false _ (c .before .before .before .before .before .before .before .if1 .left))))
+    (λ c. let f = is13 _ _ _ _ (c .before .before .before .before .before .before .before .key .ensures) (c .before .before .before .before .field13 .ensures) in ascend key13 (g13 amended) (opt (byte 45 ⨾ from15)) _ _ (with13 (c .before .before .before .before .field13 .result)) (adds13 _ _ _ f) _ _ (ap (λ (x : Found13). x .end) f) (c .before .before .after13 .ensures) ∙ number-there key13 rest13 from15 _ _ _ (c .before .before .before .before .before .before .before .key .ensures) good-13 good-from15 apart-13 refl (not-false _ (c .before .before .before .before .before .if1 .left))))

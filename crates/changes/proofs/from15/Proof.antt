@@ -21,4 +21,4 @@ from15-spec =
     (λ c. number-missed key15 rest15 from16 _ _ _ (c .before .before .before .before .key .ensures) (not-true _ (c .before .before .if1 .taken)) _ _ (c .before .from16 .ensures) (c .past .ensures))
     (λ c κs. tt)
     (λ c κs. tt)
-    (λ c. let f = is15 _ _ _ _ (c .before .before .before .before .before .before .before .before .before .before .key .ensures) (c .before .before .before .before .before .before .before .field15 .ensures) in ascend key15 (g15 amended) (opt (byte 45 ⨾ from16)) _ _ (with15 (c .before .before .before .before .before .before .before .field15 .result)) (adds15 _ _ _ f) _ _ (ap (λ (x : Found15). x .end) f) (c .before .before .before .before .before .after15 .ensures) ∙ number-there key15 rest15 from16 _ _ _ (c .before .before .before .before .before .before .before .before .before .before .key .ensures) good-15 good-from16 apart-15 refl (not-false _ (c .before .before .before .before .before .before .before .before .if1 .left))))
+    (λ c. let f = is15 _ _ _ _ (c .before .before .before .before .before .before .before .key .ensures) (c .before .before .before .before .field15 .ensures) in ascend key15 (g15 amended) (opt (byte 45 ⨾ from16)) _ _ (with15 (c .before .before .before .before .field15 .result)) (adds15 _ _ _ f) _ _ (ap (λ (x : Found15). x .end) f) (c .before .before .after15 .ensures) ∙ number-there key15 rest15 from16 _ _ _ (c .before .before .before .before .before .before .before .key .ensures) good-15 good-from16 apart-15 refl (not-false _ (c .before .before .before .before .before .if1 .left))))

@@ -21,4 +21,4 @@ from16-spec =
     (λ c. number-missed key16 rest16 from18 _ _ _ (c .before .before .before .before .key .ensures) (not-true _ (c .before .before .if1 .taken)) _ _ (c .before .from18 .ensures) (c .past .ensures))
     (λ c κs. tt)
     (λ c κs. tt)
-    (λ c. let f = is16 _ _ _ _ (c .before .before .before .before .before .before .before .before .before .before .before .key .ensures) (c .before .before .before .before .before .before .before .before .field16 .ensures) in ascend key16 (g16 amended) (opt (byte 45 ⨾ from18)) _ _ (with16 (c .before .before .before .before .before .before .before .before .field16 .result)) (adds16 _ _ _ f) _ _ (ap (λ (x : Found16). x .end) f) (c .before .before .before .before .before .before .after16 .ensures) ∙ number-there key16 rest16 from18 _ _ _ (c .before .before .before .before .before .before .before .before .before .before .before .key .ensures) good-16 good-from18 apart-16 refl (not-false _ (c .before .before .before .before .before .before .before .before .before .if1 .left))))
+    (λ c. let f = is16 _ _ _ _ (c .before .before .before .before .before .before .before .key .ensures) (c .before .before .before .before .field16 .ensures) in ascend key16 (g16 amended) (opt (byte 45 ⨾ from18)) _ _ (with16 (c .before .before .before .before .field16 .result)) (adds16 _ _ _ f) _ _ (ap (λ (x : Found16). x .end) f) (c .before .before .after16 .ensures) ∙ number-there key16 rest16 from18 _ _ _ (c .before .before .before .before .before .before .before .key .ensures) good-16 good-from18 apart-16 refl (not-false _ (c .before .before .before .before .before .if1 .left))))

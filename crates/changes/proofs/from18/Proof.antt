@@ -8,7 +8,7 @@ use Rattle.changes.proofs.from18.Tie as tie
 returns : tie.Need-returns
 unfolding from18 found22 among occurs spanBy
 returns c =
-    rw (c .before .before .no-plan .ensures, is18 _ _ _ _ (c .before .before .before .before .before .key .ensures) (c .before .before .before .before .field18 .ensures))
+    rw (c .no-plan .ensures, is18 _ _ _ _ (c .before .before .before .key .ensures) (c .before .before .field18 .ensures))
 
 pub from18-spec : {M : Type 1} → statement M
 from18-spec = tie.close (tie.spec (λ c κs. tt) (λ c κs. tt) (λ c κs. tt) returns)

@@ -10,31 +10,31 @@ returns : tie.Need-returns
 returns c =
     let a = c .before .before .before .before .before .before .before .before .before .before .before .before .args in
     let h = c .before .before .before .before .before .before .before .before .before .before .before .before .pre in
-    unlaid (a .ours .now) (a .partners .now) (a .n) (a .d .now) (a .r) _ _ _ _ (h .0) (c .before .before .before .before .before .before .before .number-bytes .ensures) (c .before .before .before .before .lay-as .ensures) (not-true _ (c .if1 .taken))
+    unlaid (a .ours .now) (a .partners .now) (a .n) (a .d .now) (a .r) _ _ _ _ (h .0) (h .1) (h .2) (c .before .before .before .before .before .before .before .number-bytes .ensures) (c .before .before .before .before .lay-as .ensures) (not-true _ (c .if1 .taken))
 
 fits : tie.Need-slice-reshare-prefix-reads-back
 fits c =
     let a = c .before .before .before .before .before .before .before .before .before .before .before .before .before .args in
     let h = c .before .before .before .before .before .before .before .before .before .before .before .before .before .pre in
-    draft-fits (a .ours .now) (a .partners .now) (a .n) (a .d .now) (a .r) _ _ _ _ (h .0) (c .before .before .before .before .before .before .before .before .number-bytes .ensures) (c .before .before .before .before .before .lay-as .ensures) (not-false _ (c .before .if1 .left))
+    draft-fits (a .ours .now) (a .partners .now) (a .n) (a .d .now) (a .r) _ _ _ _ (h .0) (h .1) (h .2) (c .before .before .before .before .before .before .before .before .number-bytes .ensures) (c .before .before .before .before .before .lay-as .ensures) (not-false _ (c .before .if1 .left))
 
 size : tie.Need-slice-aggregate-reads-back
 size c =
     let a = c .before .before .before .before .before .before .before .before .before .before .before .before .before .before .args in
     let h = c .before .before .before .before .before .before .before .before .before .before .before .before .before .before .pre in
-    sym (draft-size (a .ours .now) (a .partners .now) (a .n) (a .d .now) (a .r) _ _ _ _ (h .0) (c .before .before .before .before .before .before .before .before .before .number-bytes .ensures) (c .before .before .before .before .before .before .lay-as .ensures) (not-false _ (c .before .before .if1 .left)))
+    sym (draft-size (a .ours .now) (a .partners .now) (a .n) (a .d .now) (a .r) _ _ _ _ (h .0) (h .1) (h .2) (c .before .before .before .before .before .before .before .before .before .number-bytes .ensures) (c .before .before .before .before .before .before .lay-as .ensures) (not-false _ (c .before .before .if1 .left)))
 
 returns-2 : tie.Need-returns-2
 returns-2 c =
     let a = c .before .before .before .before .before .before .before .before .before .before .before .before .before .before .before .before .args in
     let h = c .before .before .before .before .before .before .before .before .before .before .before .before .before .before .before .before .pre in
-    unread (a .ours .now) (a .partners .now) (a .n) (a .d .now) (a .r) _ _ _ _ (h .0) (c .before .before .before .before .before .before .before .before .before .before .before .number-bytes .ensures) (c .before .before .before .before .before .before .before .before .lay-as .ensures) (not-false _ (c .before .before .before .before .if1 .left)) (h .1) (h .2) _ (c .before .before .before .with-number .ensures) _ (c .before .reads-back .ensures) (not-true _ (c .if2 .taken))
+    unread (a .ours .now) (a .partners .now) (a .n) (a .d .now) (a .r) _ _ _ _ (h .0) (h .1) (h .2) (c .before .before .before .before .before .before .before .before .before .before .before .number-bytes .ensures) (c .before .before .before .before .before .before .before .before .lay-as .ensures) (not-false _ (c .before .before .before .before .if1 .left)) _ (c .before .before .before .with-number .ensures) _ (c .before .reads-back .ensures) (not-true _ (c .if2 .taken))
 
 returns-3 : tie.Need-returns-3
 returns-3 c =
     let a = c .before .before .before .before .before .before .before .before .before .before .before .before .before .before .before .before .args in
     let h = c .before .before .before .before .before .before .before .before .before .before .before .before .before .before .before .before .pre in
-    drawn (a .ours .now) (a .partners .now) (a .n) (a .d .now) (a .r) _ _ _ _ (h .0) (c .before .before .before .before .before .before .before .before .before .before .before .number-bytes .ensures) (c .before .before .before .before .before .before .before .before .lay-as .ensures) (not-false _ (c .before .before .before .before .if1 .left)) (h .1) (h .2) _ (c .before .before .before .with-number .ensures) _ (c .before .reads-back .ensures) (not-false _ (c .if2 .left))
+    drawn (a .ours .now) (a .partners .now) (a .n) (a .d .now) (a .r) _ _ _ _ (h .0) (h .1) (h .2) (c .before .before .before .before .before .before .before .before .before .before .before .number-bytes .ensures) (c .before .before .before .before .before .before .before .before .lay-as .ensures) (not-false _ (c .before .before .before .before .if1 .left)) _ (c .before .before .before .with-number .ensures) _ (c .before .reads-back .ensures) (not-false _ (c .if2 .left))
 
 pub draft-spec : {M : Type 1} → statement M
 draft-spec =

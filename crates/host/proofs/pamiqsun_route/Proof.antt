@@ -7,13 +7,13 @@ use Rattle.host.proofs.pamiqsun_route.Tie as tie
 
 returns : tie.Need-returns
 returns c =
-    let p = c .before .before .before .before in
+    let p = c .before .before in
     words-read route _ _ (p .before .read .ensures) _ (p .route-in .ensures) (c .enum-told .given .1)
 
 returns-2 : tie.Need-returns-2
 returns-2 c =
     let k = c .before in
-    let p = k .before .before .before .before in
+    let p = k .before .before in
     words-refused route _ _ (p .before .read .ensures) _ (p .route-in .ensures) _ _ (k .v .given .1)
 
 pub pamiqsun-route-spec : {M : Type 1} → statement M

@@ -8,9 +8,8 @@ use Prim.Native.Nat.{ℕ, zero, suc, _+_, _-_, _*_, _≤_}
 use native.Mathlib.Omega.{arith}
 use lib.ListN.{length, getD, take, drop}
 use lib.Seq.{getD-take, getD-drop}
-use Rattle.scan.specs.declared.Span.{Span}
 use Rattle.scan.specs.declared.Class.the-variants.{Letter, Digit}
-use Rattle.scan.specs.Grammar.{all, text, run, words, part, Derives}
+use Rattle.scan.specs.Grammar.{placeOf, sizeOf, Span, all, text, run, words, part, Derives}
 use Rattle.scan.specs.Scanner.{among, occurs}
 use Rattle.scan.specs.Tests.{nullable, clear, apart, fixed, heads, differ, offLeaf, off, names, strange, covers, plain}
 use Rattle.fields.specs.Names as n
@@ -64,8 +63,8 @@ figure-cut (suc k) m s at h =
     λ i. figure-cut k m s at (omega arith) i * 10 + (sym e i - 48)
 
 -- of three digits
-figure-three : (s : List ℕ) (p : Span) → p .len ≡ 3 → figureIn s p ≡ figure 3 (cut s p) 0
-figure-three s p e = ap (λ (k : ℕ). figureAt k s (p .at)) e ∙ figure-cut 3 (p .len) s (p .at) (omega arith)
+figure-three : (s : List ℕ) (p : Span) → sizeOf p ≡ 3 → figureIn s p ≡ figure 3 (cut s p) 0
+figure-three s p e = ap (λ (k : ℕ). figureAt k s (placeOf p)) e ∙ figure-cut 3 (sizeOf p) s (placeOf p) (omega arith)
 
 -- FIELD 31
 
@@ -87,7 +86,7 @@ module _ (w : List ℕ) (r : Record) (j : Judged w Read r) where
   number-figure : r .figures .number ≡ figure 3 (cut w (r .parts .number .digits)) 0
   number-figure =
       let d = number-said w r j .2 in
-      let l : length (cut w (r .parts .number .digits)) ≡ r .parts .number .digits .len = cut-size w (r .parts .number .digits) (its-inside w r j n.number) in
+      let l : length (cut w (r .parts .number .digits)) ≡ sizeOf (r .parts .number .digits) = cut-size w (r .parts .number .digits) (its-inside w r j n.number) in
       ap (λ (x : Record). x .figures .number) (j .2) ∙ sym (ap (λ (x : Record). figureIn w (x .parts .number .digits)) (j .2)) ∙ figure-three w (r .parts .number .digits) (omega (arith, l, d .1, d .2))
 
   -- an RTI has its field 31

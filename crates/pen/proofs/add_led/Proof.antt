@@ -8,11 +8,11 @@ use Rattle.pen.proofs.add_led.Statement.{statement}
 use Rattle.pen.proofs.add_led.Tie as tie
 
 returns : tie.Need-returns
-returns c = let a = c .before .before .before .before .before .args in skipped (a .d .now) (a .text .now) (a .p) (a .a ∷ []) _ (omega (arith, c .if1 .taken))
+returns c = let a = c .before .before .before .before .args in skipped (a .d .now) (a .text .now) (a .p) (a .a ∷ []) _ (omega (arith, c .if1 .taken))
 
 returns-2 : tie.Need-returns-2
 returns-2 c =
-    let a = c .before .before .before .before .before .before .before .before .before .before .before .before .before .args in
+    let a = c .before .before .before .before .before .before .before .before .before .before .before .before .args in
     stands _ (omega arith) (rw (append-nil (cut (a .d .now) (a .a)))) (then (c .before .before .before .before .before .before .add .ensures (a .d .now)) (c .before .before .add-part .ensures))
 
 pub add-led-spec : {M : Type 1} → statement M

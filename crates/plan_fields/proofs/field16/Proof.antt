@@ -21,4 +21,4 @@ field16-spec =
     (λ c κs. tt)
     (λ c κs. tt)
     (λ c κs. tt)
-    (λ c. rw (c .before .before .before .alternates .ensures, c .before .before .before .before .longer .ensures, c .before .before .before .before .before .either .ensures, c .before .before .before .before .before .before .between2 .ensures, c .before .before .before .before .before .before .before .none .ensures, c .before .before .before .before .before .before .before .before .minute .ensures, c .before .before .before .before .before .before .before .before .before .digits .ensures, c .before .before .before .before .before .before .before .before .before .before .between .ensures, c .before .before .before .before .before .before .before .before .before .before .before .letters .ensures)))
+    (λ c. rw (c .before .alternates .ensures, c .before .before .longer .ensures, c .before .before .before .either .ensures, c .before .before .before .before .between2 .ensures, c .before .before .before .before .before .none .ensures, c .before .before .before .before .before .before .minute .ensures, c .before .before .before .before .before .before .before .digits .ensures, c .before .before .before .before .before .before .before .before .between .ensures, c .before .before .before .before .before .before .before .before .before .letters .ensures)))

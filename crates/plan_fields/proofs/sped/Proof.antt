@@ -10,4 +10,4 @@ sped-spec =
     (tie.spec
     (λ c κs. search needs)
     (λ c κs. search needs)
-    (λ c. rw (c .before .before .before .after15 .ensures, c .before .before .before .before .between .ensures)))
+    (λ c. rw (c .before .after15 .ensures, c .before .before .between .ensures)))

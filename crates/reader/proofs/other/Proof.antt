@@ -1,7 +1,7 @@
 use mathlib.Core.Path.{ap, _∙_, subst, sym}
 use Prim.Native.Nat.{_+_, _≤_}
 use lib.ListN.{length}
-use Rattle.scan.specs.declared.Span.{Span}
+use Rattle.scan.specs.Grammar.{placeOf, sizeOf, Span}
 use Rattle.reader.specs.Reading.{cut, other}
 use Rattle.reader.specs.Reader.{other-within, words-of}
 use Rattle.reader.proofs.other.Statement.{statement}
@@ -9,7 +9,7 @@ use Rattle.reader.proofs.other.Tie as tie
 
 part-of-requires : tie.Need-part-of-requires
 part-of-requires c κs =
-    subst (λ (p : Span). p .at + p .len ≤ length (c .before .before .before .args .s .now)) (sym (c .other-in .ensures)) (other-within (c .before .before .before .args .s .now) (c .before .read .result .verdict) (c .before .read .result .record) (c .before .read .ensures))
+    subst (λ (p : Span). placeOf p + sizeOf p ≤ length (c .before .before .before .args .s .now)) (sym (c .other-in .ensures)) (other-within (c .before .before .before .args .s .now) (c .before .read .result .verdict) (c .before .read .result .record) (c .before .read .ensures))
 
 returns : tie.Need-returns
 returns c =

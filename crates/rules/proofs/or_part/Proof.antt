@@ -2,6 +2,7 @@
 use mathlib.Core.Path.{sym, ap}
 use mathlib.Core.Bool.{Bool, cond}
 use borrow.Author.Tests.{eq-eqb, ne-eqb}
+use Rattle.scan.specs.Grammar.{sizeOf}
 use Rattle.rules.specs.Keys.{orPart}
 use Rattle.rules.proofs.or_part.Statement.{statement}
 use Rattle.rules.proofs.or_part.Tie as tie
@@ -11,5 +12,5 @@ unfolding orPart
 or-part-spec =
     tie.close
     (tie.spec
-    (λ c. let a = c .before .before .args in sym (ap (λ (b : Bool). cond b (a .own) (a .c)) (eq-eqb (a .c .len) 0 (c .if1 .taken))))
-    (λ c. let a = c .before .before .args in sym (ap (λ (b : Bool). cond b (a .own) (a .c)) (ne-eqb (a .c .len) 0 (c .if1 .left)))))
+    (λ c. let a = c .before .args in sym (ap (λ (b : Bool). cond b (a .own) (a .c)) (eq-eqb (sizeOf (a .c)) 0 (c .if1 .taken))))
+    (λ c. let a = c .before .args in sym (ap (λ (b : Bool). cond b (a .own) (a .c)) (ne-eqb (sizeOf (a .c)) 0 (c .if1 .left)))))

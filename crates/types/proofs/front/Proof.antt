@@ -16,4 +16,4 @@ front-spec =
     (λ c κs. tt)
     (λ c κs. tt)
     (λ c κs. tt)
-    (λ c. rw (c .before .before .before .before .before .before .before .before .before .no-plan .ensures, c .before .before .before .before .before .before .before .before .before .before .before .field10 .ensures, c .before .before .before .before .before .before .before .before .before .before .before .before .byte3 .ensures, c .before .before .before .before .before .before .before .before .before .before .before .before .before .before .field09 .ensures, c .before .before .before .before .before .before .before .before .before .before .before .before .before .before .before .byte2 .ensures, c .before .before .before .before .before .before .before .before .before .before .before .before .before .before .before .before .before .field08 .ensures, c .before .before .before .before .before .before .before .before .before .before .before .before .before .before .before .before .before .before .byte .ensures, c .before .before .before .before .before .before .before .before .before .before .before .before .before .before .before .before .before .before .before .before .field07 .ensures)))
+    (λ c. rw (c .no-plan .ensures, c .before .before .field10 .ensures, c .before .before .before .byte3 .ensures, c .before .before .before .before .before .field09 .ensures, c .before .before .before .before .before .before .byte2 .ensures, c .before .before .before .before .before .before .before .before .field08 .ensures, c .before .before .before .before .before .before .before .before .before .byte .ensures, c .before .before .before .before .before .before .before .before .before .before .before .field07 .ensures)))

@@ -11,4 +11,4 @@ opened-spec =
     (λ c κs. tt)
     (λ c κs. tt)
     (λ c κs. tt)
-    (λ c. rw (c .no-number .ensures, c .before .before .before .before .before .number .ensures, c .before .before .before .before .before .before .opens .ensures)))
+    (λ c. rw (c .no-number .ensures, c .before .before .number .ensures, c .before .before .before .opens .ensures)))

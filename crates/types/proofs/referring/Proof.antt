@@ -11,4 +11,4 @@ referring-spec =
     (tie.spec
     (λ c κs. tt)
     (λ c κs. tt)
-    (λ c. rw (c .before .before .before .before .number .ensures, c .before .before .before .before .before .before .before .opened .ensures)))
+    (λ c. rw (c .before .number .ensures, c .before .before .before .before .opened .ensures)))
