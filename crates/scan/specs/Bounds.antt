@@ -1,5 +1,5 @@
 -- How far a scan goes, whatever its grammar, and that a text longer than the longest one is judged by its beginning.
-use mathlib.Core.Path.{_≡_, refl, sym, ap, _∙_}
+use mathlib.Core.Path.{_≡_, refl, ap, _∙_}
 use mathlib.Core.Logic.{⊎-elim}
 use mathlib.Core.Bool.{Bool, true, false, cond, _&&_}
 use mathlib.Core.List.{List, _++_}
@@ -11,7 +11,7 @@ use lib.Dec.{ltb, eqb}
 use Rattle.scan.specs.declared.Scan.{Scan}
 use Rattle.scan.specs.declared.Class.{Class}
 use Rattle.scan.specs.declared.Class.the-variants.{Word, Byte}
-use Rattle.scan.specs.Grammar.{Span, span, placeOf, sizeOf, isIn, G, eps, run, words, seq, alt, part, field, Derives, Refusal, none}
+use Rattle.scan.specs.Grammar.{Span, span, isIn, G, eps, run, words, seq, alt, part, field, Derives, Refusal, none}
 use Rattle.scan.specs.Scanner.{runAt, runScan, wordsAt, wordsScan, leads, scan, scanAt, among, occurs, between, spanBy, spanOf, between16, spot}
 use Rattle.scan.specs.Tests.{good, longest}
 use Rattle.scan.specs.Theory.{skip, place}
@@ -85,32 +85,6 @@ forth g s r q e = rw e (scan-forth g s r)
 pub scan-short : (g : G) (s : List ℕ) (r : Scan) → scan g s r .next ≤ r .next + longest g
 scan-short g s r = scan-within g s r .1
 
-abbrev Short : ℕ → ℕ → Span → Type 0
-Short k at p = (placeOf p ≤ at + k) × (sizeOf p ≤ k)
-
-pub span-short : (n : ℕ) (g : G) (s : List ℕ) (r : Scan) → (placeOf (spanOf n g s r) ≤ r .next + longest g) × (sizeOf (spanOf n g s r) ≤ longest g)
-unfolding longest spanBy between
-span-short n eps s r = (omega arith, omega arith)
-span-short n (run c lo hi) s r = (omega arith, omega arith)
-span-short n (words k) s r = (omega arith, omega arith)
-span-short n (seq a b) s r =
-    let h = span-short n a s r in
-    let l = span-short n b s (scan a s r) in
-    let m = scan-short a s r in
-    either (Short (longest a + longest b) (r .next)) (occurs n a) (spanOf n a s r) (spanOf n b s (scan a s r)) (omega arith, omega arith) (omega arith, omega arith)
-span-short n (alt a b) s r =
-    let P : Span → Type 0 = Short (max (longest a) (longest b)) (r .next) in
-    let h = span-short n a s r in
-    let l = span-short n b s r in
-    either P (leads (scan a s r) (scan b s r)) (spanOf n a s r) (spanOf n b s r) (omega arith, omega arith) (omega arith, omega arith)
-span-short n (part m g) s r =
-    let P : Span → Type 0 = Short (longest g) (r .next) in
-    let q : Scan = scan g s r in
-    let h = scan-short g s r in
-    let p : Span = span (r .next) (q .next - r .next) in
-    either P (eqb n m) (between r q) none (either P (q .ok) p none (omega arith, omega arith) (omega arith, omega arith)) (omega arith, omega arith)
-span-short n (field ns g) s r = either (Short (longest g) (r .next)) (among n ns) (spanOf n g s r) none (span-short n g s r) (omega arith, omega arith)
-
 -- 32 bits hold the parts of a text that is not too long
 pub spot-same : (n : ℕ) (g : G) (s : List ℕ) (r : Scan) → r .next + longest g < 65536 → spot n g s r ≡ spanOf n g s r
 unfolding longest spanBy between between16
@@ -128,23 +102,15 @@ spot-same n (part m g) s r h =
 spot-same n (field ns g) s r h = rw (spot-same n g s r h)
 
 -- where the scan before is not whole, no part is there
-stays : (f : Scan → Scan → Span) → ((r q : Scan) → q .ok ≡ false → f r q ≡ none) → (n : ℕ) (g : G) (s : List ℕ) (r : Scan) → r .ok ≡ false → spanBy f n g s r ≡ none
-unfolding spanBy
-stays f z n eps s r e = refl
-stays f z n (run c lo hi) s r e = refl
-stays f z n (words k) s r e = refl
-stays f z n (seq a b) s r e = either (λ (p : Span). p ≡ none) (occurs n a) _ _ (stays f z n a s r e) (rw (skip a s r e) (stays f z n b s r e))
-stays f z n (alt a b) s r e = either (λ (p : Span). p ≡ none) (leads (scan a s r) (scan b s r)) _ _ (stays f z n a s r e) (stays f z n b s r e)
-stays f z n (part m g) s r e = rw (skip g s r e) (either (λ (p : Span). p ≡ none) (eqb n m) (f r r) none (z r r e) refl)
-stays f z n (field ns g) s r e = either (λ (p : Span). p ≡ none) (among n ns) _ _ (stays f z n g s r e) refl
-
-pub span-stays : (n : ℕ) (g : G) (s : List ℕ) (r : Scan) → r .ok ≡ false → spanOf n g s r ≡ none
-unfolding between
-span-stays = stays between (λ r q e. rw e)
-
 pub spot-stays : (n : ℕ) (g : G) (s : List ℕ) (r : Scan) → r .ok ≡ false → spot n g s r ≡ none
-unfolding between16
-spot-stays = stays between16 (λ r q e. rw e)
+unfolding spanBy between16
+spot-stays n eps s r e = refl
+spot-stays n (run c lo hi) s r e = refl
+spot-stays n (words k) s r e = refl
+spot-stays n (seq a b) s r e = either (λ (p : Span). p ≡ none) (occurs n a) _ _ (spot-stays n a s r e) (rw (skip a s r e) (spot-stays n b s r e))
+spot-stays n (alt a b) s r e = either (λ (p : Span). p ≡ none) (leads (scan a s r) (scan b s r)) _ _ (spot-stays n a s r e) (spot-stays n b s r e)
+spot-stays n (part m g) s r e = rw (skip g s r e, e) (either (λ (p : Span). p ≡ none) (eqb n m) none none refl refl)
+spot-stays n (field ns g) s r e = either (λ (p : Span). p ≡ none) (among n ns) _ _ (spot-stays n g s r e) refl
 
 -- A TEXT IS JUDGED BY A BOUNDED BEGINNING
 

@@ -2,7 +2,7 @@
 ghost use mathlib.Core.Path.{_≡_};
 ghost use mathlib.Core.Bool.{cond, false};
 ghost use Prim.Native.Nat.{_≤_, _<_};
-ghost use Rattle.scan.specs.Grammar.{isIn, all, none as noneOf, placeOf, sizeOf, run as runG};
+ghost use Rattle.scan.specs.Grammar.{isIn, all, none as noneOf, run as runG};
 ghost use Rattle.scan.specs.declared.Class.the-variants.{Word};
 ghost use Rattle.scan.specs.Laws.{Whole};
 ghost use Rattle.scan.specs.Scanner.{runAt, scan, longer as longerOf, leads as leadsOf, between16};
@@ -319,20 +319,6 @@ pub fn none() -> Span
     ensures { λ r. ⌜ r ≡ noneOf ⌝ }
 {
     0
-}
-
-// Where a part stands.
-pub fn place_of(p: Span) -> usize
-    ensures { λ r. ⌜ (r ≡ placeOf p) × (r < 65536) ⌝ }
-{
-    (p / 65536) as usize
-}
-
-// Its length.
-pub fn size_of(p: Span) -> usize
-    ensures { λ r. ⌜ (r ≡ sizeOf p) × (r < 65536) ⌝ }
-{
-    (p % 65536) as usize
 }
 
 // The part between two scans, absent where the second is not whole.
