@@ -176,7 +176,7 @@ fn key_unused(table: &[u8], w: &[u8], r: Record) -> bool
     }
     let o = r.parts.own;
     let c = r.parts.changes;
-    is_nowhere(flight_find::find(
+    is_nowhere(flights::finding::find(
         table,
         or_own(w, c.aircraft, o.aircraft),
         or_own(w, c.departure, o.departure),
@@ -236,7 +236,7 @@ fn may_on(d: Deed, table: &[u8], i: usize, w: &[u8], r: Record) -> bool
 fn new_place(table: &[u8]) -> Decision
     ensures { λ d. ⌜ d ≡ decidedAt (lowestFree (flightsIn (now (table .entry)))) ⌝ }
 {
-    let p = flight_find::lowest_free(table);
+    let p = flights::finding::lowest_free(table);
     match p {
         Place::At(i) => Decision::Done(i),
         Place::Nowhere => Decision::Full,
@@ -250,7 +250,7 @@ pub fn decide(table: &[u8], w: &[u8], r: Record) -> Decision
 {
     let o = r.parts.own;
     let d = deed_of(w, r);
-    let p = flight_find::find(
+    let p = flights::finding::find(
         table,
         part(w, o.aircraft),
         part(w, o.departure),

@@ -10,6 +10,10 @@ ghost use Rattle.flights.specs.Flight.{freeRecord};
 ghost use Rattle.flights.specs.Table.{places};
 ghost use Rattle.flights.specs.Made.{blankRecord};
 
+pub mod checking;
+pub mod finding;
+pub mod tables;
+
 // How long a text is without the blanks at its right. These are passed by sixteen as long as there are so many.
 fn text_length(s: &[u8]) -> usize
     ensures { λ r. ⌜ (r ≤ length (now (s .entry))) × (take r (now (s .entry)) ≡ trimmed (now (s .entry))) ⌝ }

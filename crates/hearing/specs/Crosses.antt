@@ -45,8 +45,8 @@ use Rattle.rules.specs.Answers.{answerTo, isOffering, isAcceptance}
 use Rattle.rules.specs.Laws.{offers, accepts}
 use Rattle.rules.specs.Crossing.{crossing-applied, retires-is, retired-sent}
 use Rattle.rules.specs.Receiving.{given, answering, about, handled, settled, settledSent, retires, retireHeld, retireAt, retired, waitingAt, hearFirst}
-use Rattle.calls.specs.declared.Outcome.{Outcome}
-use Rattle.calls.specs.Calls.{Comes}
+use Rattle.rules.specs.declared.Outcome.{Outcome}
+use Rattle.rules.specs.Calls.{Comes}
 use Rattle.hearing.specs.Hearing.{begun, Does, does-comes}
 
 -- WHAT IS DECIDED OF THE TWO

@@ -31,9 +31,9 @@ use Rattle.response.specs.Answering.{answerText}
 use Rattle.rules.specs.Replies.{Reply, refused, done, number}
 use Rattle.rules.specs.Answers.{answerTo, isOffering, isAcceptance}
 use Rattle.rules.specs.Receiving.{given, giving, answering, retired, hearFirst, hearAgain}
-use Rattle.calls.specs.declared.Answer.the-variants.{Done, NoRoom, Stale}
-use Rattle.calls.specs.declared.Outcome.{Outcome}
-use Rattle.calls.specs.Calls.{refusalIn, Comes, Gives}
+use Rattle.rules.specs.declared.Answer.the-variants.{Done, NoRoom, Stale}
+use Rattle.rules.specs.declared.Outcome.{Outcome}
+use Rattle.rules.specs.Calls.{refusalIn, Comes, Gives}
 
 -- THE ANSWERS
 

@@ -1,3 +1,4 @@
 pub mod Crosses
 pub mod Hearing
 pub mod Standings
+pub mod Settles

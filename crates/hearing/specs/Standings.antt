@@ -14,9 +14,9 @@ use Rattle.deeds.specs.Message.{Message}
 use Rattle.memory.specs.End.{End, Memory}
 use Rattle.rules.specs.Laws.{value-small}
 use Rattle.rules.specs.Receiving.{raised, hearFirst, hearAgain, hearOld, hearMessage}
-use Rattle.calls.specs.declared.Answer.the-variants as answers
-use Rattle.calls.specs.declared.Outcome.{Outcome}
-use Rattle.calls.specs.Calls.{Comes}
+use Rattle.rules.specs.declared.Answer.the-variants as answers
+use Rattle.rules.specs.declared.Outcome.{Outcome}
+use Rattle.rules.specs.Calls.{Comes}
 
 -- an answer that is kept is of two digits at most
 pub kept-small : (a : List ℕ) (n : ℕ) → AnswersFormed a → n ≤ 999 → getD a n 0 < 100

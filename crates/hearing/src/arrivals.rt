@@ -12,12 +12,12 @@ ghost use Rattle.deeds.specs.Applying.{decision, applied};
 ghost use Rattle.memory.specs.End.{Memory, Formed, endOf};
 ghost use Rattle.rules.specs.Answers.{answerTo};
 ghost use Rattle.rules.specs.Receiving.{hearAgain};
-ghost use Rattle.calls.specs.Calls.{Comes};
+ghost use Rattle.rules.specs.Calls.{Comes};
 ghost use Rattle.hearing.specs.Hearing.{Does};
-use calls::Answer;
-use calls::Outcome;
 use head::Head;
 use message::Record;
+use rules::Answer;
+use rules::Outcome;
 
 // An old number that was answered gets that answer again, and nothing changes. RLA is for an RTI only.
 pub(crate) fn hear_again(h: Head, v: u8, w: &[u8], r: Record, out: &mut [u8]) -> Outcome
@@ -32,7 +32,7 @@ pub(crate) fn hear_again(h: Head, v: u8, w: &[u8], r: Record, out: &mut [u8]) ->
     }
     let mut text = [0u8; 50];
     let n = response::lay_answer(&mut text, w, r, v);
-    calls::give(h, &text[..n], out)
+    rules::give(h, &text[..n], out)
 }
 
 // A first arrival is decided on the table that it is about, done there and answered.

@@ -17,12 +17,12 @@ ghost use Rattle.deeds.specs.Applying.{decision, doneAt, applied};
 ghost use Rattle.rules.specs.Answers.{answerTo, isOffering, isAcceptance};
 ghost use Rattle.hearing.specs.Hearing.{Does};
 ghost use Rattle.hearing.specs.Crosses.{crossed, Crosses};
-use calls::Answer;
-use calls::Outcome;
 use deeds::Decision;
 use deeds::Deed;
 use head::Head;
 use message::Record;
+use rules::Answer;
+use rules::Outcome;
 
 // An offer and its acceptance, both done at one place.
 fn cross(sent: &mut [u8], i: usize, t: &[u8], q: Record, w: &[u8], r: Record)

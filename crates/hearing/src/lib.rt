@@ -17,19 +17,20 @@ ghost use Rattle.deeds.specs.Deeds.{deedOf};
 ghost use Rattle.memory.specs.End.{lent, Formed, endOf};
 ghost use Rattle.rules.specs.Answers.{isAcceptance};
 ghost use Rattle.rules.specs.Receiving.{hearFirst, hearMessage};
-ghost use Rattle.calls.specs.Calls.{Comes};
+ghost use Rattle.rules.specs.Calls.{Comes};
 ghost use Rattle.hearing.specs.Hearing.{begun};
 
 mod arrivals;
 mod crossing;
 mod replying;
+pub mod settling;
 
-use calls::Answer;
-use calls::Outcome;
 use head::Head;
 use head::Standing;
 use message::Record;
 use places::Place;
+use rules::Answer;
+use rules::Outcome;
 
 // The record of a text that is kept, which is one that is read.
 fn kept_record(t: &[u8]) -> Record

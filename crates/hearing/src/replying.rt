@@ -7,9 +7,9 @@ ghost use Rattle.head.specs.Head.{received as raisedTo};
 ghost use Rattle.answers.specs.Given.{forgotten};
 ghost use Rattle.rules.specs.Receiving.{given};
 ghost use Rattle.hearing.specs.Hearing.{Replied};
-use calls::Answer;
-use calls::Outcome;
 use head::Head;
+use rules::Answer;
+use rules::Outcome;
 
 // Where n is the highest so far, the answers to the numbers that it passed are forgotten.
 fn forget_passed(answers: &mut [u8], fresh: bool, highest: usize, n: usize)

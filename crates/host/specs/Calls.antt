@@ -16,9 +16,9 @@ use Rattle.unanswered.specs.Waiting.{UnansweredFormed}
 use Rattle.memory.specs.End.{Memory, Formed}
 use Rattle.rules.specs.Receiving.{receive}
 use Rattle.rules.specs.Sending.{resend}
-use Rattle.calls.specs.declared.Answer.{Answer}
-use Rattle.calls.specs.declared.Outcome.{Outcome}
-use Rattle.calls.specs.Calls.{refusalIn, lengthIn, Called}
+use Rattle.rules.specs.declared.Answer.{Answer}
+use Rattle.rules.specs.declared.Outcome.{Outcome}
+use Rattle.rules.specs.Calls.{refusalIn, lengthIn, Called}
 use Rattle.link.specs.Sends.{Sent}
 use Rattle.link.specs.SetUp.{SetsUp}
 use Rattle.packed.specs.Packed.{packedOf, recordIn}

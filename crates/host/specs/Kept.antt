@@ -22,10 +22,10 @@ use Rattle.flights.specs.Table.{places}
 use Rattle.rules.specs.Replies.{Reply, refused, done, number}
 use Rattle.rules.specs.Sending.{send, resend, fresh}
 use Rattle.rules.specs.Receiving.{receive}
-use Rattle.calls.specs.declared.Answer.{Answer}
-use Rattle.calls.specs.declared.Answer.the-variants.{Done, NotRead, NoRoom, WrongUnits, Stale, NothingUnanswered, WrongAnswer, NamedAlready, TooManyUnanswered, TooFarBack, ConditionFails, TableFull, NotFormed, BreaksRule, BadNames}
-use Rattle.calls.specs.declared.Outcome.{Outcome}
-use Rattle.calls.specs.Calls.{refusalIn, lengthIn, Comes, Called}
+use Rattle.rules.specs.declared.Answer.{Answer}
+use Rattle.rules.specs.declared.Answer.the-variants.{Done, NotRead, NoRoom, WrongUnits, Stale, NothingUnanswered, WrongAnswer, NamedAlready, TooManyUnanswered, TooFarBack, ConditionFails, TableFull, NotFormed, BreaksRule, BadNames}
+use Rattle.rules.specs.declared.Outcome.{Outcome}
+use Rattle.rules.specs.Calls.{refusalIn, lengthIn, Comes, Called}
 use Rattle.link.specs.Sends.{Sent}
 use Rattle.link.specs.SetUp.{SetsUp}
 use Rattle.packed.specs.Packed.{recordIn}

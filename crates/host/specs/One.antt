@@ -15,9 +15,9 @@ use Rattle.writer.specs.Writing as w
 use Rattle.writer.specs.Written.{wrote-one}
 use Rattle.head.specs.declared.Head.{Head}
 use Rattle.memory.specs.End.{Memory}
-use Rattle.calls.specs.declared.Outcome.{Outcome}
-use Rattle.calls.specs.Calls.{refusalIn, lengthIn}
-use Rattle.calls.specs.One.{Left}
+use Rattle.rules.specs.declared.Outcome.{Outcome}
+use Rattle.rules.specs.Calls.{refusalIn, lengthIn}
+use Rattle.rules.specs.One.{Left}
 use Rattle.link.specs.One as link
 use Rattle.packed.specs.Packed.{recordIn}
 use Rattle.packed.specs.Head.{headIn, headBytes}

@@ -16,8 +16,8 @@ use Rattle.writer.specs.Writing.{Wrote, answerOf}
 use Rattle.head.specs.declared.Head.{Head}
 use Rattle.memory.specs.End.{Memory}
 use Rattle.rules.specs.Sending.{resend}
-use Rattle.calls.specs.declared.Outcome.{Outcome}
-use Rattle.calls.specs.Calls.{refusalIn, lengthIn, Called}
+use Rattle.rules.specs.declared.Outcome.{Outcome}
+use Rattle.rules.specs.Calls.{refusalIn, lengthIn, Called}
 use Rattle.link.specs.Sends.{Sent}
 use Rattle.packed.specs.Packed.{packedOf, recordIn}
 use Rattle.packed.specs.Head.{headIn, headBytes}

@@ -120,14 +120,14 @@ pub extern "C" fn pamiqsun_is_formed(
 pub extern "C" fn pamiqsun_is_flight(flight: &[u8]) -> usize
     ensures { λ n. ⌜ Checked (WellFormed (now (flight .entry))) n ⌝ }
 {
-    numbers::found(flight_check::is_well_formed(flight))
+    numbers::found(flights::checking::is_well_formed(flight))
 }
 
 #[no_mangle]
 pub extern "C" fn pamiqsun_is_table(table: &[u8]) -> usize
     ensures { λ n. ⌜ Checked (TableFormed (now (table .entry))) n ⌝ }
 {
-    numbers::found(flight_table::is_table(table))
+    numbers::found(flights::tables::is_table(table))
 }
 
 #[no_mangle]

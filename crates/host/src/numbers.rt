@@ -2,8 +2,8 @@
 ghost use mathlib.Core.Path.{_≡_};
 ghost use mathlib.Core.Bool.{cond};
 ghost use Rattle.writer.specs.Writing.{answerOf as writtenOf};
-ghost use Rattle.calls.specs.Calls.{refusalIn, lengthIn};
-use calls::Answer;
+ghost use Rattle.rules.specs.Calls.{refusalIn, lengthIn};
+use rules::Answer;
 use writer::Writing;
 
 // What document 01 has an answer tell: its number, the length that it gives, the place and the hyphens before it.

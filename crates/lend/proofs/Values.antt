@@ -24,12 +24,12 @@ use Rattle.message.proofs.Record.Laws as Record′
 use Rattle.head.specs.declared.Head.{Head}
 use Rattle.head.proofs.Head as Head·
 use Rattle.head.proofs.Head.Laws as Head′
-use Rattle.calls.specs.declared.Answer.{Answer}
-use Rattle.calls.specs.declared.Outcome.{Outcome}
-use Rattle.calls.proofs.Answer as Answer·
-use Rattle.calls.proofs.Answer.Laws as Answer′
-use Rattle.calls.proofs.Outcome as Outcome·
-use Rattle.calls.proofs.Outcome.Laws as Outcome′
+use Rattle.rules.specs.declared.Answer.{Answer}
+use Rattle.rules.specs.declared.Outcome.{Outcome}
+use Rattle.rules.proofs.Answer as Answer·
+use Rattle.rules.proofs.Answer.Laws as Answer′
+use Rattle.rules.proofs.Outcome as Outcome·
+use Rattle.rules.proofs.Outcome.Laws as Outcome′
 
 pub ofHead : Head → Val
 ofHead x = struct.val Head·.the-type Head′.the-laws x

@@ -17,9 +17,9 @@ use Rattle.memory.specs.End.{Memory, endOf}
 use Rattle.rules.specs.Replies.{refused, number, done}
 use Rattle.rules.specs.Receiving.{receive, waitingAt}
 use Rattle.rules.specs.Sending.{resend, resendAt, resendHeld}
-use Rattle.calls.specs.declared.Answer.{Answer}
-use Rattle.calls.specs.Calls.{Comes, Called}
-use Rattle.calls.specs.One.{Left, left, sure-left}
+use Rattle.rules.specs.declared.Answer.{Answer}
+use Rattle.rules.specs.Calls.{Comes, Called}
+use Rattle.rules.specs.One.{Left, left, sure-left}
 use Rattle.link.specs.SetUp.{SetsUp}
 use Rattle.link.specs.Sends.{Sent}
 use Rattle.link.specs.One as link

@@ -5,13 +5,13 @@ ghost use lib.ListN.{length};
 ghost use Rattle.memory.specs.End.{lent};
 ghost use Rattle.rules.specs.Receiving.{receive as receiveOf};
 ghost use Rattle.rules.specs.Sending.{resend as resendOf};
-ghost use Rattle.calls.specs.Calls.{Called};
+ghost use Rattle.rules.specs.Calls.{Called};
 ghost use Rattle.link.specs.SetUp.{SetsUp};
 ghost use Rattle.link.specs.Sends.{Sent};
 ghost use Rattle.lend.specs.Outcome.{outcome};
-use calls::Answer;
 use head::Head;
 use message::Record;
+use rules::Answer;
 
 // SETTING UP an end, over whatever stands in the memory and in the head.
 pub fn set_up(

@@ -15,7 +15,7 @@ use Rattle.head.specs.Sound.{Names, HeadFormed, four, at-most}
 use Rattle.flights.specs.Table.{places}
 use Rattle.memory.specs.End.{Memory, lent}
 use Rattle.memory.specs.Held.{table-empty, waiting-empty}
-use Rattle.calls.specs.declared.Answer.the-variants.{Done, NotFormed, BadNames}
+use Rattle.rules.specs.declared.Answer.the-variants.{Done, NotFormed, BadNames}
 use Rattle.link.specs.SetUp.{Sized, Sizes, firstHead, SetsUp}
 
 -- SIZES

@@ -14,9 +14,9 @@ use Rattle.rules.specs.Replies.{number, refused, done}
 use Rattle.rules.specs.Receiving.{receive}
 use Rattle.rules.specs.Sending.{send, resend, fresh}
 use Rattle.rules.specs.Refusals.{receive-numbered, send-numbered, resend-numbered}
-use Rattle.calls.specs.declared.Outcome.{Outcome}
-use Rattle.calls.specs.Calls.{Called}
-use Rattle.calls.specs.One.{left, sure-left, comes-one, called-one}
+use Rattle.rules.specs.declared.Outcome.{Outcome}
+use Rattle.rules.specs.Calls.{Called}
+use Rattle.rules.specs.One.{left, sure-left, comes-one, called-one}
 use Rattle.head.specs.Sound.{Names}
 use Rattle.link.specs.SetUp.{Sizes, SetsUp}
 use Rattle.link.specs.Sends.{Sent}

@@ -16,9 +16,9 @@ use Rattle.memory.specs.End.{Memory, endOf, waitingIn}
 use Rattle.rules.specs.Replies.{Reply, refused, number}
 use Rattle.rules.specs.Reads.{read-message}
 use Rattle.rules.specs.Receiving.{directed, waitingAt, settleAt, hearMessage, hear, receiveBy, receive}
-use Rattle.calls.specs.declared.Answer.the-variants.{NotRead, WrongUnits}
-use Rattle.calls.specs.declared.Outcome.{Outcome}
-use Rattle.calls.specs.Calls.{Comes}
+use Rattle.rules.specs.declared.Answer.the-variants.{NotRead, WrongUnits}
+use Rattle.rules.specs.declared.Outcome.{Outcome}
+use Rattle.rules.specs.Calls.{Comes}
 
 module _ (room : ℕ) (m : Message) (h : Head) (l : Memory) (out : List ℕ) where
   -- 3

@@ -18,9 +18,9 @@ use Rattle.memory.specs.Held.{NumberedAt, found-waiting, waiting-at, memory-bac
 use Rattle.rules.specs.Replies.{Reply, refused, done, number}
 use Rattle.rules.specs.Receiving.{giving}
 use Rattle.rules.specs.Sending.{resendHeld, resendAt, resend}
-use Rattle.calls.specs.declared.Answer.the-variants.{NothingUnanswered, NotFormed}
-use Rattle.calls.specs.declared.Outcome.{Outcome}
-use Rattle.calls.specs.Calls.{refusalIn, Comes, Called, Gives}
+use Rattle.rules.specs.declared.Answer.the-variants.{NothingUnanswered, NotFormed}
+use Rattle.rules.specs.declared.Outcome.{Outcome}
+use Rattle.rules.specs.Calls.{refusalIn, Comes, Called, Gives}
 
 -- DAMAGED OR NOT
 

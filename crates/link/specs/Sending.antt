@@ -9,10 +9,10 @@ use Rattle.scan.specs.Bools.{Decides}
 use Rattle.message.specs.declared.Record.{Record}
 use Rattle.message.specs.declared.Verdict.the-variants.{Read}
 use Rattle.reader.specs.Reader.{Ruled}
-use Rattle.drafts.specs.declared.Drafting.{Drafting}
-use Rattle.drafts.specs.declared.Drafting.the-variants.{Written, BreaksRule}
-use Rattle.drafts.specs.Draft.{Drafted, Draws}
-use Rattle.drafts.specs.Moved.{drafted-one}
+use Rattle.writer.specs.declared.Drafting.{Drafting}
+use Rattle.writer.specs.declared.Drafting.the-variants.{Written, BreaksRule}
+use Rattle.writer.specs.Draft.{Drafted, Draws}
+use Rattle.writer.specs.Moved.{drafted-one}
 use Rattle.head.specs.declared.Head.{Head}
 use Rattle.head.specs.Sound.{HeadFormed}
 use Rattle.unanswered.specs.Waiting.{isAnswer, UnansweredFormed}
@@ -20,9 +20,9 @@ use Rattle.memory.specs.End.{Memory, Formed, FormedBeside, endOf}
 use Rattle.memory.specs.Held.{all-formed}
 use Rattle.rules.specs.Replies.{refused, number}
 use Rattle.rules.specs.Sending.{send}
-use Rattle.calls.specs.declared.Answer.the-variants as answer
-use Rattle.calls.specs.declared.Outcome.{Outcome}
-use Rattle.calls.specs.Calls.{refusalIn, Comes, Called}
+use Rattle.rules.specs.declared.Answer.the-variants as answer
+use Rattle.rules.specs.declared.Outcome.{Outcome}
+use Rattle.rules.specs.Calls.{refusalIn, Comes, Called}
 use Rattle.link.specs.Beginning.{names-long}
 use Rattle.link.specs.Sends.{Sent}
 

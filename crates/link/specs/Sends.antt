@@ -6,14 +6,14 @@ use mathlib.Core.List.{List}
 use Prim.Native.Nat.{ℕ}
 use lib.ListN.{length}
 use Rattle.message.specs.declared.Record.{Record}
-use Rattle.drafts.specs.Draft.{Drafted}
+use Rattle.writer.specs.Draft.{Drafted}
 use Rattle.head.specs.declared.Head.{Head}
 use Rattle.unanswered.specs.Waiting.{isAnswer}
 use Rattle.memory.specs.End.{Memory, Formed, endOf}
 use Rattle.rules.specs.Replies.{refused, number}
 use Rattle.rules.specs.Sending.{send}
-use Rattle.calls.specs.declared.Outcome.{Outcome}
-use Rattle.calls.specs.Calls.{Comes}
+use Rattle.rules.specs.declared.Outcome.{Outcome}
+use Rattle.rules.specs.Calls.{Comes}
 
 -- what the call has left that was given the record r over the bytes d. What breaks a field rule has no text under the next
 -- number; what has one is sent as the rules say of that text

@@ -9,8 +9,8 @@ use Rattle.flights.specs.Table.{places}
 use Rattle.memory.specs.End.{Memory}
 use Rattle.rules.specs.Replies.{refused, done, number}
 use Rattle.rules.specs.Sending.{fresh}
-use Rattle.calls.specs.declared.Outcome.{Outcome}
-use Rattle.calls.specs.Calls.{Comes}
+use Rattle.rules.specs.declared.Outcome.{Outcome}
+use Rattle.rules.specs.Calls.{Comes}
 
 -- 1 to 32 places of 768 bytes
 pub record Sized (t : List ℕ) : Type 0 where

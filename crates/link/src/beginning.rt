@@ -5,9 +5,9 @@ ghost use Rattle.scan.specs.Bools.{Decides};
 ghost use Rattle.memory.specs.End.{lent};
 ghost use Rattle.head.specs.Sound.{Names};
 ghost use Rattle.link.specs.SetUp.{Sized, Sizes, firstHead, SetsUp};
-use calls::Answer;
-use calls::Outcome;
 use head::Head;
+use rules::Answer;
+use rules::Outcome;
 
 // Whether a table is of 1 to 32 places.
 fn is_sized(t: &[u8]) -> bool

@@ -9,14 +9,14 @@ ghost use Rattle.flights.specs.Formed.{TableFormed};
 ghost use Rattle.answers.specs.Given.{AnswersFormed};
 ghost use Rattle.memory.specs.End.{lent};
 ghost use Rattle.rules.specs.Sending.{send as sendOf};
-ghost use Rattle.calls.specs.Calls.{Called};
+ghost use Rattle.rules.specs.Calls.{Called};
 ghost use Rattle.link.specs.Sends.{Sent};
 ghost use Rattle.link.specs.Sending.{Refuses};
-use calls::Answer;
-use calls::Outcome;
-use drafts::Drafting;
 use head::Head;
 use message::Record;
+use rules::Answer;
+use rules::Outcome;
+use writer::Drafting;
 
 // What has no text to send is refused by 13; 12 for the unanswered messages comes before.
 fn refuse(h: Head, unanswered: &[u8]) -> Outcome
@@ -79,7 +79,7 @@ pub fn send(
     let ours = h.ours;
     let partners = h.partners;
     let mut text = [0u8; 1077];
-    let v = drafts::draft(&mut text, &ours, &partners, h.next, r, d);
+    let v = writer::draft(&mut text, &ours, &partners, h.next, r, d);
     match v {
         Drafting::Written(n) => send_draft(h, &text[..n], sent, received, unanswered, out),
         Drafting::BreaksRule => refuse(h, unanswered),

@@ -6,17 +6,17 @@ ghost use Rattle.memory.specs.End.{lent, Formed, endOf};
 ghost use Rattle.deeds.specs.Message.{messageOf};
 ghost use Rattle.rules.specs.Receiving.{hear as hearOf, receive as receiveOf};
 ghost use Rattle.rules.specs.Sending.{resend as resendOf};
-ghost use Rattle.calls.specs.Calls.{Comes, Called};
+ghost use Rattle.rules.specs.Calls.{Comes, Called};
 
 pub mod beginning;
 pub mod dispatch;
 
-use calls::Answer;
-use calls::Outcome;
 use head::Head;
 use message::Record;
 use message::Verdict;
 use places::Place;
+use rules::Answer;
+use rules::Outcome;
 
 // RESENDING: the kept text of an unanswered number. Nothing else changes.
 pub fn resend(
@@ -38,7 +38,7 @@ pub fn resend(
     }
     let p = unanswered::find(unanswered, n);
     match p {
-        Place::At(i) => calls::give(h, unanswered::text(unanswered, i), out),
+        Place::At(i) => rules::give(h, unanswered::text(unanswered, i), out),
         Place::Nowhere => Outcome {
             answer: Answer::NothingUnanswered,
             head: h,
@@ -68,7 +68,7 @@ fn hear(
     }
     let kind = r.kind;
     if unanswered::is_answer(kind) {
-        return settling::hear_answer(h, kind, r.figures.number, sent, unanswered);
+        return hearing::settling::hear_answer(h, kind, r.figures.number, sent, unanswered);
     }
     hearing::hear_message(h, text, r, sent, received, unanswered, answers, out)
 }

@@ -8,8 +8,8 @@ pub fn is_sound_beside(h: Head, sent: &[u8], received: &[u8], answers: &[u8]) ->
     ensures { λ r. ⌜ Decides r (FormedBeside h (now (sent .entry)) (now (received .entry)) (now (answers .entry))) ⌝ }
 {
     h.is_sound()
-        & flight_table::is_table(sent)
-        & flight_table::is_table(received)
+        & flights::tables::is_table(sent)
+        & flights::tables::is_table(received)
         & answers::is_answers(answers)
 }
 

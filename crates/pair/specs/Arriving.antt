@@ -19,8 +19,8 @@ use Rattle.rules.specs.Answers.{isAcceptance}
 use Rattle.rules.specs.Receiving.{receive}
 use Rattle.response.specs.Answering.{answerText}
 use Rattle.rules.specs.Refusals.{receive-numbered}
-use Rattle.calls.specs.declared.Outcome.{Outcome}
-use Rattle.calls.specs.Calls.{Called, Comes}
+use Rattle.rules.specs.declared.Outcome.{Outcome}
+use Rattle.rules.specs.Calls.{Called, Comes}
 use Rattle.pair.specs.kinds.Tools.{true-false, none-some, some-inj}
 use Rattle.pair.specs.kinds.Kinds.{Content, contentOf, isYes, againTo, answerKind}
 use Rattle.pair.specs.kinds.Views.{View, Hears}

@@ -14,9 +14,9 @@ use Rattle.head.specs.declared.Head.{Head}
 use Rattle.memory.specs.End.{End, Memory, memoryOf}
 use Rattle.rules.specs.Replies.{Refusal, Reply, refused, done}
 use Rattle.rules.specs.Refusals.{Numbered}
-use Rattle.calls.specs.declared.Answer.{Answer}
-use Rattle.calls.specs.declared.Outcome.{Outcome}
-use Rattle.calls.specs.Calls.{refusalIn, lengthIn, Comes}
+use Rattle.rules.specs.declared.Answer.{Answer}
+use Rattle.rules.specs.declared.Outcome.{Outcome}
+use Rattle.rules.specs.Calls.{refusalIn, lengthIn, Comes}
 use Rattle.pair.specs.World.{number, given}
 
 pub record Refuses (h : Head) (m : Memory) (o : Outcome) (m′ : Memory) (out′ : List ℕ) (x : Refusal) : Type 0 where

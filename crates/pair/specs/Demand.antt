@@ -13,8 +13,8 @@ use Rattle.memory.specs.End.{Memory, Formed}
 use Rattle.rules.specs.Reads.{messageIn}
 use Rattle.rules.specs.Answers.{isAcceptance}
 use Rattle.rules.specs.Receiving.{receive}
-use Rattle.calls.specs.declared.Outcome.{Outcome}
-use Rattle.calls.specs.Calls.{Called}
+use Rattle.rules.specs.declared.Outcome.{Outcome}
+use Rattle.rules.specs.Calls.{Called}
 use Rattle.pair.specs.World.{Copy, Among, Side, InTime, number, given, changed, answered, hears, Reach, begin, left, right, Run}
 use Rattle.pair.specs.Claims.{Agrees, Unanswered}
 use Rattle.pair.specs.Followed.{followed, turned}

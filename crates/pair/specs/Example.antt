@@ -13,7 +13,7 @@ use Rattle.flights.specs.Flight.{Flight, Status, filed, active, Handoff, offere
 use Rattle.unanswered.specs.Waiting.{Waiting}
 use Rattle.memory.specs.End.{End}
 use Rattle.rules.specs.Receiving.{settle}
-use Rattle.calls.specs.declared.Answer.the-variants.{NothingUnanswered}
+use Rattle.rules.specs.declared.Answer.the-variants.{NothingUnanswered}
 use Rattle.head.specs.Sound.{Names}
 use Rattle.pair.specs.World.{here, there}
 use Rattle.pair.specs.Stages.{Past, nothing, wrote, repeated, replied, Stage, across, sent-on, resent-on, heard-on, learnt-on, refused-on, Shown, shown, start, ruling}

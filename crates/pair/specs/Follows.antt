@@ -16,7 +16,7 @@ use Rattle.memory.specs.End.{End, Memory, Formed, waitingIn, endOf, memoryOf}
 use Rattle.rules.specs.Reads.{messageIn}
 use Rattle.rules.specs.Receiving.{directed}
 use Rattle.response.specs.Answering.{answerText}
-use Rattle.calls.specs.declared.Outcome.{Outcome}
+use Rattle.rules.specs.declared.Outcome.{Outcome}
 use Rattle.pair.specs.kinds.Tools.{upd, upd-same, upd-other, same?}
 use Rattle.pair.specs.kinds.Kinds.{contentOf}
 use Rattle.pair.specs.kinds.Ends.{viewOf, SoundEnd}

@@ -8,8 +8,8 @@ use lib.ListN.{length}
 use Rattle.memory.specs.End.{End, Memory, waitingIn}
 use Rattle.rules.specs.Replies.{Reply, number as by}
 use Rattle.rules.specs.Receiving.{receive}
-use Rattle.calls.specs.declared.Outcome.{Outcome}
-use Rattle.calls.specs.Calls.{Called, Comes}
+use Rattle.rules.specs.declared.Outcome.{Outcome}
+use Rattle.rules.specs.Calls.{Called, Comes}
 use Rattle.pair.specs.kinds.Tools.{none-some}
 use Rattle.pair.specs.kinds.Kinds.{Content}
 use Rattle.pair.specs.kinds.Views.{View}

@@ -16,8 +16,8 @@ use Rattle.message.specs.declared.Verdict.{Verdict}
 use Rattle.reader.specs.Reading.{cut}
 use Rattle.pen.specs.Listed.{spanOf}
 use Rattle.compose.specs.Recorded.{its-inside}
-use Rattle.drafts.specs.Draft.{digits, figuresAs, numbered, Drafted}
-use Rattle.drafts.specs.Moved.{drafted-one}
+use Rattle.writer.specs.Draft.{digits, figuresAs, numbered, Drafted}
+use Rattle.writer.specs.Moved.{drafted-one}
 use Rattle.head.specs.declared.Head.{Head}
 use Rattle.head.specs.Head.{standingAt}
 use Rattle.places.specs.Bytes.{same, same-is}
@@ -38,10 +38,10 @@ use Rattle.rules.specs.Reads.{messageIn}
 use Rattle.rules.specs.Answers.{goodAnswer, answerTo, isOffering, isAcceptance, proper, isGood}
 use Rattle.rules.specs.Receiving.{referred, settledSent, settle, retires, retired, hearFirst, hearAgain, hearOld, hearMessage, hear, receiveBy, receive}
 use Rattle.rules.specs.Sending.{anyWaiting, countWaiting, tooOld, oneOf, sameSide, namesOne, sendAt, send, resend, fresh}
-use Rattle.calls.specs.declared.Answer.{Answer}
-use Rattle.calls.specs.declared.Answer.the-variants.{Done}
-use Rattle.calls.specs.declared.Outcome.{Outcome}
-use Rattle.calls.specs.Calls.{refusalIn, Comes, Called}
+use Rattle.rules.specs.declared.Answer.{Answer}
+use Rattle.rules.specs.declared.Answer.the-variants.{Done}
+use Rattle.rules.specs.declared.Outcome.{Outcome}
+use Rattle.rules.specs.Calls.{refusalIn, Comes, Called}
 use Rattle.head.specs.Sound.{Names}
 use Rattle.link.specs.SetUp.{Sized, Sizes}
 use Rattle.link.specs.Sends.{Sent}

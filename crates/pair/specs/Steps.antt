@@ -9,7 +9,7 @@ use native.Mathlib.Omega.{arith}
 use lib.ListN.{length}
 use Rattle.message.specs.declared.Record.{Record}
 use Rattle.head.specs.declared.Head.{Head}
-use Rattle.drafts.specs.Draft.{Drafted}
+use Rattle.writer.specs.Draft.{Drafted}
 use Rattle.places.specs.declared.Place.the-variants.{At}
 use Rattle.places.specs.Places.{get}
 use Rattle.unanswered.specs.Waiting.{Waiting, isAnswer}
@@ -21,8 +21,8 @@ use Rattle.rules.specs.Receiving.{directed, waitingAt, receive}
 use Rattle.rules.specs.Sending.{send, resend}
 use Rattle.response.specs.Answering.{answerText}
 use Rattle.rules.specs.Refusals.{receive-numbered, send-numbered, resend-numbered}
-use Rattle.calls.specs.declared.Outcome.{Outcome}
-use Rattle.calls.specs.Calls.{Called, Comes}
+use Rattle.rules.specs.declared.Outcome.{Outcome}
+use Rattle.rules.specs.Calls.{Called, Comes}
 use Rattle.link.specs.Sends.{Sent}
 use Rattle.pair.specs.kinds.Tools.{same?, upd, some-inj}
 use Rattle.pair.specs.kinds.Kinds.{Content, contentOf}

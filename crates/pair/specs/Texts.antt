@@ -16,7 +16,7 @@ use Rattle.message.specs.declared.Verdict.the-variants.{Read, Refused}
 use Rattle.reader.specs.Reading.{Judged}
 use Rattle.reader.specs.Reader.{verdict}
 use Rattle.writer.specs.Writing.{Content}
-use Rattle.drafts.specs.Draft.{Drafted, numbered}
+use Rattle.writer.specs.Draft.{Drafted, numbered}
 use Rattle.head.specs.declared.Standing.{Standing}
 use Rattle.head.specs.declared.Standing.the-variants.{New, Old, Stale}
 use Rattle.head.specs.Head as h

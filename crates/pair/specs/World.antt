@@ -8,13 +8,13 @@ use lib.ListN.{length, take}
 use lib.Dec.{eqb}
 use Rattle.message.specs.declared.Record.{Record}
 use Rattle.head.specs.declared.Head.{Head}
-use Rattle.drafts.specs.Draft.{Drafted}
+use Rattle.writer.specs.Draft.{Drafted}
 use Rattle.unanswered.specs.Waiting.{isAnswer}
 use Rattle.memory.specs.End.{Memory}
 use Rattle.rules.specs.Receiving.{receive}
 use Rattle.rules.specs.Sending.{resend}
-use Rattle.calls.specs.declared.Outcome.{Outcome}
-use Rattle.calls.specs.Calls.{refusalIn, lengthIn, Called}
+use Rattle.rules.specs.declared.Outcome.{Outcome}
+use Rattle.rules.specs.Calls.{refusalIn, lengthIn, Called}
 use Rattle.head.specs.Sound.{Names}
 use Rattle.link.specs.SetUp.{Sizes, SetsUp}
 use Rattle.link.specs.Sends.{Sent}

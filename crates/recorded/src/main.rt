@@ -28,7 +28,7 @@ fn tell(c: Decision) {
 fn apply(line: &[u8], r: Record, table: &mut [u8])
     requires { ⌜ Judged (now line) Read r ⌝ }
 {
-    if !flight_table::is_table(&table[..]) {
+    if !flights::tables::is_table(&table[..]) {
         say(b"the table is not well formed\n");
         return;
     }
@@ -62,7 +62,7 @@ fn main() {
     let mut table = [0u8; 3840];
     let n = io::read_full(STDIN_FILENO, &mut input);
     take_all(&input[..n], &mut table);
-    if flight_table::is_table(&table) {
+    if flights::tables::is_table(&table) {
         say(b"well formed\n");
     }
     say(&table);

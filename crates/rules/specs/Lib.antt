@@ -7,3 +7,6 @@ pub mod Keys
 pub mod Laws
 pub mod Crossing
 pub mod Refusals
+pub mod Calls
+pub mod Giving
+pub mod One

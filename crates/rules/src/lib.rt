@@ -1,4 +1,4 @@
-// The rules of an end: tests of types and units. What the calls do stands in link.
+// The rules of an end: tests of types and units, and what a call answers. What the calls do stands in link.
 ghost use mathlib.Core.Path.{_≡_};
 ghost use mathlib.Core.Bool.{_&&_};
 ghost use lib.Dec.{eqb};
@@ -11,6 +11,7 @@ ghost use Rattle.rules.specs.Answers.{isOffering, isAcceptance, proper a
 ghost use Rattle.rules.specs.Receiving.{units, referred as referredOf, directed as directedOf, retires as retiresOf};
 ghost use Rattle.rules.specs.Sending.{oneOf, sameSide, namesOne};
 ghost use Rattle.rules.specs.Keys.{orPart, oldParts, changedParts, newParts, keyOf, KeyInside};
+ghost use Rattle.rules.specs.Calls.{Gives};
 use deeds::Decision;
 use deeds::Deed;
 use head::Head;
@@ -294,4 +295,49 @@ pub fn names_one<'a>(w: &'a [u8], r: Record, x: &'a [u8], q: Record) -> bool
     let a = is_acceptance(deeds::deed_of(w, r));
     let b = is_acceptance(deeds::deed_of(x, q));
     same_side(a, b) & (one_of(w, old_parts(r), x, q) | one_of(w, new_parts(r), x, q))
+}
+
+// ---- what a call answers
+
+// It is done, with the length of the text that is given; or it refuses, and then nothing has changed.
+pub enum Answer {
+    Done(usize),
+    // The place, and the hyphens before it.
+    NotRead(usize, usize),
+    NoRoom,
+    WrongUnits,
+    Stale,
+    NothingUnanswered,
+    WrongAnswer,
+    NamedAlready,
+    TooManyUnanswered,
+    TooFarBack,
+    ConditionFails,
+    TableFull,
+    NotFormed,
+    BreaksRule,
+    BadNames,
+}
+
+// The answer, and the head as it now is.
+pub struct Outcome {
+    pub answer: Answer,
+    pub head: Head,
+}
+
+// Gives a text, if the buffer has room for it.
+pub fn give(h: Head, t: &[u8], out: &mut [u8]) -> Outcome
+    ensures { λ r. ⌜ Gives h (now (t .entry)) (now (out .entry)) r (now (out .exit)) ⌝ }
+{
+    if out.len() < t.len() {
+        return Outcome {
+            answer: Answer::NoRoom,
+            head: h,
+        };
+    }
+    let n = splice::put(out, 0, t);
+    Outcome {
+        answer: Answer::Done(n),
+        head: h,
+    }
 }

@@ -36,10 +36,10 @@ use Rattle.rules.specs.Replies.{Reply, refused, done, number}
 use Rattle.rules.specs.Reads.{read-message}
 use Rattle.rules.specs.Answers.{isAcceptance}
 use Rattle.rules.specs.Sending.{anyWaiting, countWaiting, tooOld, naming, making, mayBeSent, fills, sending, sendAt, send}
-use Rattle.calls.specs.declared.Answer.{Answer}
-use Rattle.calls.specs.declared.Answer.the-variants.{Done, NoRoom, NamedAlready, TooManyUnanswered, TooFarBack, ConditionFails, TableFull, NotFormed}
-use Rattle.calls.specs.declared.Outcome.{Outcome}
-use Rattle.calls.specs.Calls.{refusalIn, Comes, Called}
+use Rattle.rules.specs.declared.Answer.{Answer}
+use Rattle.rules.specs.declared.Answer.the-variants.{Done, NoRoom, NamedAlready, TooManyUnanswered, TooFarBack, ConditionFails, TableFull, NotFormed}
+use Rattle.rules.specs.declared.Outcome.{Outcome}
+use Rattle.rules.specs.Calls.{refusalIn, Comes, Called}
 use Rattle.sending.specs.Deciding.{holds, decidedOn, may-be-sent, tableFilled}
 
 -- THE WRITES

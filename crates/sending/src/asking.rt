@@ -72,5 +72,5 @@ pub(crate) fn is_filled(sent: &[u8], makers: usize, w: &[u8], r: Record) -> bool
     if !deeds::makes(deeds::deed_of(w, r)) {
         return false;
     }
-    sent.len() / 768 <= flight_find::used(sent) + makers
+    sent.len() / 768 <= flights::finding::used(sent) + makers
 }

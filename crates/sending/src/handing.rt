@@ -14,11 +14,11 @@ ghost use Rattle.deeds.specs.Deeds.{deedOf};
 ghost use Rattle.deeds.specs.Applying.{decision};
 ghost use Rattle.rules.specs.Answers.{isAcceptance};
 ghost use Rattle.sending.specs.Sent.{accepted, Handed};
-use calls::Answer;
-use calls::Outcome;
 use deeds::Decision;
 use head::Head;
 use message::Record;
+use rules::Answer;
+use rules::Outcome;
 
 // THE WRITES, once nothing refuses.
 

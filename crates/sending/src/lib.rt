@@ -14,18 +14,18 @@ ghost use Rattle.deeds.specs.Message.{messageOf};
 ghost use Rattle.answers.specs.Given.{AnswersFormed};
 ghost use Rattle.memory.specs.End.{lent};
 ghost use Rattle.rules.specs.Sending.{send};
-ghost use Rattle.calls.specs.Calls.{Called};
+ghost use Rattle.rules.specs.Calls.{Called};
 ghost use Rattle.sending.specs.Survey.{Sees, Counted, Surveys};
 ghost use Rattle.sending.specs.Sent.{Sends};
 
 mod asking;
 mod handing;
 
-use calls::Answer;
-use calls::Outcome;
 use head::Head;
 use message::Record;
 use places::Place;
+use rules::Answer;
+use rules::Outcome;
 use unanswered::Shown;
 
 // What one place shows: whether it is well formed, and whether its message names this one's flight, or makes one.

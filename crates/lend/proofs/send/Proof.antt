@@ -45,16 +45,16 @@ use Rattle.link.specs.Sends.{Sent}
 use Rattle.memory.specs.End.{lent}
 use Rattle.message.specs.declared.Record.{Record}
 use Rattle.head.specs.declared.Head.{Head}
-use Rattle.calls.specs.declared.Outcome.{Outcome}
+use Rattle.rules.specs.declared.Outcome.{Outcome}
 use Rattle.lend.proofs.Passing.{rest, said-all, go-said-all, says-by}
 use Rattle.lend.proofs.Values.{ofHead, head-told, head-typed, head-made, ofAnswer, answer-typed, answer-made, ofRecord, record-told, record-typed, outcome-told, outcome-typed, head-in, answer-in}
 use Rattle.message.proofs.Record.Laws as Record′
 use Rattle.head.proofs.Head.Laws as Head′
-use Rattle.calls.proofs.Answer.Laws as Answer′
+use Rattle.rules.proofs.Answer.Laws as Answer′
 use Rattle.head.proofs.Head as Head·
-use Rattle.calls.proofs.Answer as Answer·
-use Rattle.calls.proofs.Outcome as Outcome·
-use Rattle.calls.proofs.Outcome.Laws as Outcome′
+use Rattle.rules.proofs.Answer as Answer·
+use Rattle.rules.proofs.Outcome as Outcome·
+use Rattle.rules.proofs.Outcome.Laws as Outcome′
 use Rattle.link.proofs.dispatch.send as core
 use Rattle.link.proofs.dispatch.send.Symbol as core-def
 use Rattle.link.proofs.dispatch.send.Symbol.{name as #core}

@@ -44,13 +44,13 @@ use denote.Triple.Walked.{Stays, stay-ref, walkOf, goes-ref, Walks, ends-at, wal
 use Rattle.link.specs.SetUp.{SetsUp}
 use Rattle.memory.specs.End.{lent}
 use Rattle.head.specs.declared.Head.{Head}
-use Rattle.calls.specs.declared.Outcome.{Outcome}
+use Rattle.rules.specs.declared.Outcome.{Outcome}
 use Rattle.lend.proofs.Passing.{rest, said-all, go-said-all, says-by}
 use Rattle.lend.proofs.Values.{ofHead, head-told, head-typed, head-made, ofAnswer, answer-typed, answer-made, outcome-told, outcome-typed, head-in, answer-in}
 use Rattle.head.proofs.Head as Head·
-use Rattle.calls.proofs.Answer as Answer·
-use Rattle.calls.proofs.Outcome as Outcome·
-use Rattle.calls.proofs.Outcome.Laws as Outcome′
+use Rattle.rules.proofs.Answer as Answer·
+use Rattle.rules.proofs.Outcome as Outcome·
+use Rattle.rules.proofs.Outcome.Laws as Outcome′
 use Rattle.link.proofs.beginning.set_up as core
 use Rattle.link.proofs.beginning.set_up.Symbol as core-def
 use Rattle.link.proofs.beginning.set_up.Symbol.{name as #core}

@@ -1,6 +1,6 @@
 -- `dispatch::send_draft` meets its contract.
 use borrow.Author.Needs.{needs}
-use Rattle.settling.specs.Settling.{kept-read}
+use Rattle.hearing.specs.Settles.{kept-read}
 use Rattle.link.proofs.dispatch.send_draft.Statement.{statement}
 use Rattle.link.proofs.dispatch.send_draft.Tie as tie
 

@@ -1,3 +1,0 @@
-pub mod Calls
-pub mod Giving
-pub mod One

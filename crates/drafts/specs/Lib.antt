@@ -1,3 +1,0 @@
-pub mod Draft
-pub mod Moved
-pub mod Drawn
