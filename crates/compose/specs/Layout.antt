@@ -161,11 +161,15 @@ pub find-telling : (n : ℕ) (s : List ℕ) (ps : List Part) → find n (telling
 find-telling n s [] = refl
 find-telling n s (p ∷ ps) = ⊎-elim (λ e. rw e) (λ e. rw e (find-telling n s ps)) (known (eqb n (p .name)))
 
+-- what a place and a length say together
+pub cut-span : (s : List ℕ) (at k : ℕ) → k < 65536 → cut s (span at k) ≡ take k (drop at s)
+cut-span s at k h =
+    let a : placeOf (span at k) ≡ at = omega arith in
+    let b : sizeOf (span at k) ≡ k = omega arith in
+    λ i. take (b i) (drop (a i) s)
+
 cut-middle : (x w y : List ℕ) → length w < 65536 → cut (x ++ (w ++ y)) (span (length x) (length w)) ≡ w
-cut-middle x w y h =
-    let a : placeOf (span (length x) (length w)) ≡ length x = omega arith in
-    let b : sizeOf (span (length x) (length w)) ≡ length w = omega arith in
-    (λ i. take (b i) (drop (a i) (x ++ (w ++ y)))) ∙ rw (drop-append-seam x (w ++ y)) (take-append-seam w y)
+cut-middle x w y h = cut-span (x ++ (w ++ y)) (length x) (length w) h ∙ rw (drop-append-seam x (w ++ y)) (take-append-seam w y)
 
 -- w, which is no longer than a span can say, stands in x ++ (w ++ y)
 reads-tells : (g : G) (x w y : List ℕ) (ps : List Part) → length w < 65536 → Reads g (length x) w ps → Tells g w (telling (x ++ (w ++ y)) ps)

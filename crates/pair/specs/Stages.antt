@@ -49,9 +49,10 @@ use Rattle.pair.specs.kinds.Tools.{true-false, and-yes}
 use Rattle.pair.specs.kinds.Ends.{SoundEnd}
 use Rattle.pair.specs.keeping.Memory.{formed-of, end-back, fresh-sound}
 use Rattle.pair.specs.keeping.Calls as k
-use Rattle.pair.specs.World.{Copy, Among, Side, latest, given, logged, copied, sent, resent, answered, Turn, sends, resends, hears, learns, Begun, Reach, begin, left, right}
+use Rattle.pair.specs.World.{Copy, Among, Side, latest, given, logged, copied, sent, resent, answered, Turn, sends, resends, hears, learns, Begun, Reach, begin, left}
 use Rattle.pair.specs.World as world
 use Rattle.pair.specs.Came.{came-done}
+use Rattle.pair.specs.Demand.{partners}
 use Rattle.pair.specs.Trees.{reading, isRead, recordIn, told, read-judged, verdict-read, message-told}
 
 -- WHAT A SIDE HAS BEHIND IT
@@ -88,13 +89,8 @@ pub record Stage (a b : List ℕ) (e f : End) (p q : Past) : Type 0 where
   pub there : SoundEnd f
 
 -- seen from the other side
-turned : {a b : List ℕ} {X Y : Side} → Reach a b X Y → Reach b a Y X
-turned (begin B C) = begin C B
-turned (left R t) = right (turned R) t
-turned (right R t) = left (turned R) t
-
 pub across : {a b : List ℕ} {e f : End} {p q : Past} → Stage a b e f p q → Stage b a f e q p
-across S = record { reach = turned (S .reach); here = S .there; there = S .here }
+across S = record { reach = partners (S .reach); here = S .there; there = S .here }
 
 -- A CALL THAT IS DONE, on a well formed end
 

@@ -19,6 +19,7 @@ use Rattle.types.specs.declared.Parts.{Parts}
 use Rattle.message.specs.declared.Record.{Record}
 use Rattle.reader.specs.Reading.{cut}
 use Rattle.pen.specs.declared.Pen.{Pen}
+use Rattle.compose.specs.Layout.{cut-span}
 use Rattle.pen.specs.Listed.{numberParts, planParts, restParts, spanOf, Inside}
 use Rattle.pen.specs.Laying.{restBlocks, restSpans, blocks, spans, join, AllInside, Stands, Adds}
 use Rattle.writer.specs.Writing.{Content, contentOf, Writes}
@@ -135,22 +136,15 @@ module _ (ours partners : List ℕ) (n : ℕ) (d : List ℕ) (f : length ours < 
   cut-moved : (p : Span) → cut d′ (moved ours partners p) ≡ cut d p
   cut-moved p = (λ i. take (size-moved p i) (drop (place-moved p i) d′)) ∙ ap (take (sizeOf p)) (skip (placeOf p))
 
-  -- what a place and a length say together
-  cut-span : (at k : ℕ) → k < 65536 → cut d′ (span at k) ≡ take k (drop at d′)
-  cut-span at k h =
-      let a : placeOf (span at k) ≡ at = omega arith in
-      let b : sizeOf (span at k) ≡ k = omega arith in
-      λ i. take (b i) (drop (a i) d′)
-
   cut-sender : cut d′ (span 0 (length ours)) ≡ ours
-  cut-sender = cut-span 0 (length ours) f ∙ take-append-seam ours (partners ++ (digits n ++ d))
+  cut-sender = cut-span d′ 0 (length ours) f ∙ take-append-seam ours (partners ++ (digits n ++ d))
 
   cut-receiver : cut d′ (span (length ours) (length partners)) ≡ partners
-  cut-receiver = cut-span (length ours) (length partners) g ∙ ap (take (length partners)) (drop-append-seam ours (partners ++ (digits n ++ d))) ∙ take-append-seam partners (digits n ++ d)
+  cut-receiver = cut-span d′ (length ours) (length partners) g ∙ ap (take (length partners)) (drop-append-seam ours (partners ++ (digits n ++ d))) ∙ take-append-seam partners (digits n ++ d)
 
   cut-digits : cut d′ (span (length ours + length partners) 3) ≡ digits n
   unfolding digits
-  cut-digits = cut-span (length ours + length partners) 3 (omega arith) ∙ ap (take 3) (drop-append-add ours (partners ++ (digits n ++ d)) (length partners) ∙ drop-append-seam partners (digits n ++ d))
+  cut-digits = cut-span d′ (length ours + length partners) 3 (omega arith) ∙ ap (take 3) (drop-append-add ours (partners ++ (digits n ++ d)) (length partners) ∙ drop-append-seam partners (digits n ++ d))
 
   cut-look : (k : ℕ) (ps : List Part) → cut d′ (look k (allMoved ours partners ps)) ≡ cut d (look k ps)
   cut-look k [] = refl

@@ -27,14 +27,11 @@ use Rattle.deeds.specs.declared.Decision.the-variants.{Fails, Full, Done}
 use Rattle.deeds.specs.Message.{Message, messageOf}
 use Rattle.deeds.specs.Deeds.{Key, sameKey, deedOf, old, new, isFiled, refers, mayOn, makes, may, becomes}
 use Rattle.deeds.specs.Applying.{whereIs, lowestFree, heldAt, flightUnder, other, orFree, home, allowed, decidedAt, decision, after, applied}
+use Rattle.pair.specs.views.Tables.{Single}
 use Rattle.pair.specs.keeping.Said.{Says, Stated, stated}
 use Rattle.pair.specs.keeping.Becoming.{Under, becomes-stated}
 
 -- ONE PLACE OF A KEY
-
--- no two places have flights of one key
-abbrev Distinct : Places Flight → Type 0
-Distinct l = (i j : ℕ) (x y : Flight) → get i l ≡ some x → get j l ≡ some y → keyOf x ≡ keyOf y → i ≡ j
 
 key-alike : (x y : Flight) → keyOf x ≡ keyOf y → Alike x y
 key-alike x y e = record { aircraft = ap (λ (k : Key). k .aircraft) e; departure = ap (λ (k : Key). k .departure) e; destination = ap (λ (k : Key). k .destination) e }
@@ -58,7 +55,7 @@ order? i j =
     (λ a. ⊎-elim (λ b. inr (inr (ltb-true j i b))) (λ b. inl (omega (arith, ltb-false i j a, ltb-false j i b))) (known (ltb j i)))
     (known (ltb i j))
 
-distinct : (l : Places Flight) → FlightsFormed l → Distinct l
+distinct : (l : Places Flight) → FlightsFormed l → Single l
 distinct l f i j x y p q e = go (order? i j)
   where
     go : (i ≡ j) ⊎ ((i < j) ⊎ (j < i)) → i ≡ j
@@ -74,7 +71,7 @@ under-some : (k : Key) (z : Option Flight) (x : Flight) → Under k z → z ≡ 
 under-some k z x u e = subst (Under k) e u
 
 module _ (l : Places Flight) (i : ℕ) (z : Option Flight) (k : Key) (f : FlightsFormed l) (h : i < length l) (s : SoundPlace z) (u : Under k z) (a : Alone k i l) where
-  set-distinct : Distinct (set i z l)
+  set-distinct : Single (set i z l)
   set-distinct m n x y p q e = go (same? m i) (same? n i)
     where
       -- the place c that was written has the key k, and so no other place has it

@@ -115,7 +115,7 @@ under-key : (l : Places Flight) (k : Key) (x : Flight) → byKey l k ≡ some x 
 under-key l k x e = subst (Stands l k) e (stands l k) .2
 
 -- no key twice
-abbrev Single : Places Flight → Type 0
+abbrev pub Single : Places Flight → Type 0
 Single l = (i j : ℕ) (x y : Flight) → get i l ≡ some x → get j l ≡ some y → keyOf x ≡ keyOf y → i ≡ j
 
 module _ (l : Places Flight) (u : Single l) (k : Key) where
