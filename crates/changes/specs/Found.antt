@@ -3,7 +3,7 @@ use mathlib.Core.Path.{_≡_, refl, sym, ap}
 use mathlib.Core.Logic.{_⊎_, inl, inr}
 use native.Mathlib.Omega.{arith}
 use mathlib.Core.Bool.{Bool, true, false, cond}
-use mathlib.Core.List.{List}
+use mathlib.Core.List.{List, [], _∷_}
 use Prim.Native.Nat.{ℕ, _+_, _≤_, _<_}
 use Rattle.scan.specs.declared.Scan.{Scan}
 use Rattle.scan.specs.Grammar.{Span, G, eps, alt, none}
@@ -43,6 +43,12 @@ planOf f = record {
   indicator = f n.indicator;
   other = f n.other;
 }
+
+-- and in their order
+abbrev pub planSpans : Plan → List Span
+planSpans p =
+    p .aircraft ∷ p .code ∷ p .rules ∷ p .flight ∷ p .count ∷ p .model ∷ p .wake ∷ p .equipment ∷ p .surveillance ∷ p .departure
+    ∷ p .time ∷ p .speed ∷ p .level ∷ p .route ∷ p .destination ∷ p .elapsed ∷ p .alternate ∷ p .alternate2 ∷ p .indicator ∷ p .other ∷ []
 
 abbrev pub noPlan : Plan
 noPlan = planOf (λ _. none)

@@ -11,7 +11,7 @@ use lib.ListN.{length, take, drop, replicate, length-append}
 use lib.Seq.{drop-append-seam, take-append-seam}
 use lib.Dec.{leb, ltb, eqb}
 use borrow.Author.Tests.{leb-true, lt-ltb, le-ltb, eqb-true, eq-eqb, not-true}
-use Rattle.scan.specs.Bools.{and-l, and-r, or-split, or-l, or-r, neither, known}
+use Rattle.scan.specs.Bools.{and-l, and-r, or-split, or-l, or-r, neither, known, sameBool, same-bool}
 use Rattle.scan.specs.declared.Class.{Class}
 use Rattle.scan.specs.declared.Class.the-variants.{Letter, Digit, Octal, Alnum, Word, Byte, Range, Two, Of}
 use Rattle.scan.specs.Grammar.{span, placeOf, sizeOf, all, G, eps, run, words, seq, alt, part, field, Derives, Part, Reads, look}
@@ -97,10 +97,6 @@ pieces (seq a b) = pieces a ++ pieces b
 pieces (alt a b) = pieces a
 pieces (part n g) = (true, n) ∷ []
 pieces (field ns g) = pieces g
-
-unfoldable pub sameBool : Bool → Bool → Bool
-sameBool true b = b
-sameBool false b = not b
 
 unfoldable pub samePieces : Pieces → Pieces → Bool
 samePieces [] [] = true
@@ -379,12 +375,6 @@ drawn-bytes : (k b : ℕ) (e : ℕ → List ℕ) → drawn (replicate k (false, 
 unfolding drawn
 drawn-bytes zero b e = refl
 drawn-bytes (suc k) b e = ap (λ (w : List ℕ). b ∷ w) (drawn-bytes k b e)
-
-same-bool : (a b : Bool) → sameBool a b ≡ true → a ≡ b
-unfolding sameBool
-same-bool true b e = sym e
-same-bool false true e = absurd (false≢true e)
-same-bool false false e = refl
 
 same-pieces : (xs ys : Pieces) → samePieces xs ys ≡ true → xs ≡ ys
 unfolding samePieces

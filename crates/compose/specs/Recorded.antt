@@ -9,7 +9,7 @@ use lib.ListN.{length, take, drop, length-drop}
 use lib.Seq.{length-take-le}
 use lib.Dec.{eqb}
 use borrow.Author.Tests.{eqb-true}
-use Rattle.scan.specs.Bools.{neither, known}
+use Rattle.scan.specs.Bools.{neither, known, sameBool}
 use Rattle.scan.specs.Grammar.{placeOf, sizeOf, Span, G, eps, Derives, Part, none, look}
 use Rattle.scan.specs.Texts.{byte, lit}
 use Rattle.scan.specs.declared.Class.the-variants.{Byte}
@@ -27,7 +27,7 @@ use Rattle.message.specs.declared.Record.{Record}
 use Rattle.message.specs.declared.Verdict.the-variants.{Read}
 use Rattle.message.specs.Record.{kindOf}
 use Rattle.reader.specs.Reading.{cut, Judged}
-use Rattle.compose.specs.Layout.{only, isNil, first, sure, single, pieces, sameBool, samePieces, even, told, Told, Tells, find, telling, find-telling, reading-tells, absent-part, given-run}
+use Rattle.compose.specs.Layout.{only, isNil, first, sure, single, pieces, samePieces, even, told, Told, Tells, find, telling, find-telling, reading-tells, absent-part, given-run}
 use Rattle.compose.specs.Order.{ordered, Within, in-fpl, in-cpl, in-est, in-chg, in-cnl, in-rti, in-rta, in-rla, in-lam, in-lrm}
 use Rattle.pen.specs.Listed.{partsIn, spanOf, Inside}
 use Rattle.compose.specs.Composed.{orderOf}

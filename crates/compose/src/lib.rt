@@ -3,7 +3,8 @@
 ghost use mathlib.Core.Path.{_≡_};
 ghost use mathlib.Core.List.{List, [], _∷_};
 ghost use Prim.Native.Nat.{ℕ};
-ghost use Rattle.pen.specs.Laying.{Adds, ownBlocks, ownSpans, changeBlocks, changeSpans, restBlocks, restSpans, start, opening, blocks, spans};
+ghost use Rattle.pen.specs.Laying.{Adds, ownBlocks, ownSpans, changeBlocks, restBlocks, restSpans, start, opening, blocks, spans};
+ghost use Rattle.changes.specs.Found.{planSpans};
 use changes::Plan;
 use message::Kind;
 use pen::Pen;
@@ -47,7 +48,7 @@ fn add_own(text: &mut [u8], p: Pen, d: &[u8], o: Plan, e: Estimate) -> Pen
 
 // The fields within field 22, in ascending order.
 fn add_changes(text: &mut [u8], p: Pen, d: &[u8], o: Plan) -> Pen
-    ensures { λ r. ⌜ Adds (now (d .entry)) (now (text .entry)) p (changeBlocks (now (d .entry)) o) (changeSpans o) (now (text .exit)) r ⌝ }
+    ensures { λ r. ⌜ Adds (now (d .entry)) (now (text .entry)) p (changeBlocks (now (d .entry)) o) (planSpans o) (now (text .exit)) r ⌝ }
 {
     let p1 = pen::field_texts::add_07(text, p, d, b"-07/", o.aircraft, o.code);
     let p2 = pen::field_texts::add_pair(text, p1, d, b"-08/", o.rules, o.flight);

@@ -12,8 +12,11 @@ use Rattle.deeds.specs.declared.Decision.the-variants.{Fails, Full, Done
 use Rattle.deeds.specs.Message.{Message}
 use Rattle.deeds.specs.Deeds.{Key, sameKey, old, new, deedOf, may, becomes}
 
+abbrev pub asked : Key → Option Flight → Bool
+asked k = keyed (k .aircraft) (k .departure) (k .destination)
+
 abbrev pub whereIs : Key → Places Flight → Place
-whereIs k l = firstOf (keyed (k .aircraft) (k .departure) (k .destination)) 0 l
+whereIs k l = firstOf (asked k) 0 l
 
 abbrev pub lowestFree : {A : Type 0} → Places A → Place
 lowestFree l = firstOf isFree 0 l

@@ -10,16 +10,17 @@ use Rattle.message.specs.declared.Kind.the-variants.{Chg}
 use Rattle.message.specs.Record.{isChg}
 use Rattle.places.specs.declared.Place.{Place}
 use Rattle.places.specs.declared.Place.the-variants.{At, Nowhere}
-use Rattle.places.specs.Places.{get, found-below, found-has}
+use Rattle.places.specs.Places.{get, found-below, found-has, isFree as isNone}
 use Rattle.places.specs.Stored.{get-places}
 use Rattle.flights.specs.Flight.{Flight, flightOf}
-use Rattle.flights.specs.Table.{places, place, free, found, lowestFree as lowestIn}
+use Rattle.flights.specs.Table.{places, place, found, lowestFree as lowestIn}
 use Rattle.flights.specs.Decoded.{flightForm, flightsIn, keyed, flights-many, found-places, free-places}
 use Rattle.deeds.specs.declared.Deed.{Deed}
 use Rattle.deeds.specs.declared.Decision.the-variants.{Fails, Done}
 use Rattle.deeds.specs.Message.{Message}
-use Rattle.deeds.specs.Deeds.{Key, sameKey, old, new, changedKey, deedOf, isNone, mayOn, makes, may}
-use Rattle.deeds.specs.Applying.{whereIs, lowestFree, heldAt, flightUnder, other, nowhere, orFree, decidedAt, decision}
+use Rattle.deeds.specs.Deeds.{Key, sameKey, old, new, changedKey, deedOf, mayOn, makes, may}
+use Rattle.deeds.specs.Applying.{whereIs, lowestFree, heldAt, flightUnder, other, nowhere, orFree, decidedAt, decision, asked}
+use Rattle.places.specs.Bytes.{free}
 
 -- A SEARCH
 
@@ -30,16 +31,13 @@ used-place a d e false x h = refl
 
 -- a place that was found is one of the table's, and has the flight that its bytes are
 module _ (k : Key) (t : List ℕ) (i : ℕ) (h : whereIs k (flightsIn t) ≡ At i) where
-  abbrev asked : Option Flight → Bool
-  asked = keyed (k .aircraft) (k .departure) (k .destination)
-
   pub found-in : i < places t
-  found-in = omega (arith, found-below asked 0 i (flightsIn t) h, flights-many t)
+  found-in = omega (arith, found-below (asked k) 0 i (flightsIn t) h, flights-many t)
 
   pub found-flight : get i (flightsIn t) ≡ some (flightOf (place i t))
   found-flight =
       let e : get i (flightsIn t) ≡ cond (free (place i t)) none (some (flightOf (place i t))) = get-places flightForm i (places t) t found-in in
-      e ∙ used-place (k .aircraft) (k .departure) (k .destination) (free (place i t)) (flightOf (place i t)) (ap asked (sym e) ∙ found-has asked i (flightsIn t) h)
+      e ∙ used-place (k .aircraft) (k .departure) (k .destination) (free (place i t)) (flightOf (place i t)) (ap (asked k) (sym e) ∙ found-has (asked k) i (flightsIn t) h)
 
 -- where a key is, by the search over the bytes
 pub where-is : (k : Key) (t a d e : List ℕ) (p : Place) → p ≡ found a d e t → a ≡ k .aircraft → d ≡ k .departure → e ≡ k .destination → whereIs k (flightsIn t) ≡ p

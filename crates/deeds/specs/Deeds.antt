@@ -15,6 +15,7 @@ use Rattle.flights.specs.Flight.{Flight, Status, filed, active, Handoff, offere
 use Rattle.deeds.specs.declared.Deed.{Deed}
 use Rattle.deeds.specs.declared.Deed.the-variants.{Files, Enters, Amends, Estimates, Cancels, Offers, Retracts, Accepts, Nothing}
 use Rattle.deeds.specs.Message.{Message}
+use Rattle.places.specs.Places.{isFree as isNone}
 
 -- WHICH DEED IT IS. An RTA whose reference begins with its sender's own unit is a retract; one whose reference begins with the
 -- other unit is an acceptance, of the other's flight; with other units it is neither
@@ -88,10 +89,6 @@ unfoldable pub isOffered : Handoff → Bool
 isOffered f.none = false
 isOffered offered = true
 isOffered accepted = false
-
-abbrev pub isNone : {A : Type 0} → Option A → Bool
-isNone none = true
-isNone (some a) = false
 
 -- the reference is its first number
 abbrev pub refers : Message → Flight → Bool

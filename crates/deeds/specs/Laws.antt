@@ -5,7 +5,7 @@ use mathlib.Core.Option.{Option}
 use mathlib.Core.List.{List, [], _∷_}
 use Prim.Native.Nat.{ℕ, _+_, _≤_}
 use native.Mathlib.Omega.{arith}
-use lib.ListN.{length, getD, take, drop, length-drop}
+use lib.ListN.{length, getD, drop, length-drop}
 use lib.Seq.{length-take-le}
 use lib.Dec.{eqb}
 use borrow.Author.Tests.{eqb-true, ne-eqb}
@@ -15,7 +15,7 @@ use Rattle.message.specs.declared.Kind.{Kind}
 use Rattle.message.specs.declared.Kind.the-variants.{None, Fpl, Cpl, Est, Chg, Cnl, Rti, Rta, Rla, Lam, Lrm}
 use Rattle.message.specs.declared.Verdict.the-variants.{Read}
 use Rattle.message.specs.declared.Record.{Record}
-use Rattle.reader.specs.Reading.{cut, Judged}
+use Rattle.reader.specs.Reading.{cut, Judged, cut-none}
 use Rattle.reader.specs.Reader.{words-within}
 use Rattle.places.specs.Bytes.{same, numberAt}
 use Rattle.flights.specs.Flight as f
@@ -23,7 +23,8 @@ use Rattle.flights.specs.Flight.{Flight, filed, active, offered, accepted, stat
 use Rattle.deeds.specs.declared.Deed.{Deed}
 use Rattle.deeds.specs.declared.Deed.the-variants.{Files, Enters, Amends, Estimates, Cancels, Offers, Retracts, Accepts, Nothing}
 use Rattle.deeds.specs.Message.{Message}
-use Rattle.deeds.specs.Deeds.{inOrder, turned, rtaDeed, deedBy, orHeld, isFiled, isCalm, isOffered, isNone, refers, codeFits, isOffer, mayOn}
+use Rattle.deeds.specs.Deeds.{inOrder, turned, rtaDeed, deedBy, orHeld, isFiled, isCalm, isOffered, refers, codeFits, isOffer, mayOn}
+use Rattle.places.specs.Places.{isFree as isNone}
 
 -- THE PARTS OF A MESSAGE THAT WAS READ lie within its text
 
@@ -70,9 +71,6 @@ pub same-on : {b : Bool} {x y s t : List ℕ} → b ≡ same x y → x ≡ s →
 same-on e p q = e ∙ (λ k. same (p k) (q k))
 
 -- A PART IS GIVEN exactly where it has a length
-
-cut-none : (w : List ℕ) (p : Span) → sizeOf p ≡ 0 → cut w p ≡ []
-cut-none w p e = ap (λ (k : ℕ). take k (drop (placeOf p) w)) e
 
 cut-some : (w : List ℕ) (p : Span) → Within w p → (sizeOf p ≡ 0 → ⊥) → length (cut w p) ≡ 0 → ⊥
 cut-some w p i h e = h (sym (length-take-le (sizeOf p) (drop (placeOf p) w) (omega (arith, i, length-drop (placeOf p) w))) ∙ e)

@@ -13,8 +13,9 @@ ghost use Rattle.flights.specs.Table.{places, place};
 ghost use Rattle.flights.specs.Decoded.{flightsIn};
 ghost use Rattle.message.specs.declared.Kind.the-variants.{Chg};
 ghost use Rattle.deeds.specs.Message.{messageOf};
-ghost use Rattle.deeds.specs.Deeds.{inOrder, turned, rtaDeed, deedOf, makes as makesOf, orHeld, sameKey, changedKey, old, refers as refersTo, codeFits, isNone, mayOn};
+ghost use Rattle.deeds.specs.Deeds.{inOrder, turned, rtaDeed, deedOf, makes as makesOf, orHeld, sameKey, changedKey, old, refers as refersTo, codeFits, mayOn};
 ghost use Rattle.deeds.specs.Applying.{nowhere, lowestFree, other, decidedAt, decision};
+ghost use Rattle.places.specs.Places.{isFree as isNone};
 use message::Kind;
 use message::Record;
 use places::Place;
@@ -41,21 +42,12 @@ pub enum Decision {
     Done(usize),
 }
 
-// The bytes of a part.
-fn part(w: &[u8], p: Span) -> &[u8]
-    requires { ⌜ placeOf p + sizeOf p ≤ length (now w) ⌝ }
-    ensures { λ r. ⌜ now r ≡ cut (now (w .entry)) p ⌝ }
-{
-    let at = (p / 65536) as usize;
-    &w[at..at + (p % 65536) as usize]
-}
-
 // Whether two parts say the same.
 fn same_part(w: &[u8], a: Span, b: Span) -> bool
     requires { ⌜ (placeOf a + sizeOf a ≤ length (now w)) × (placeOf b + sizeOf b ≤ length (now w)) ⌝ }
     ensures { λ r. ⌜ r ≡ same (cut (now (w .entry)) a) (cut (now (w .entry)) b) ⌝ }
 {
-    places::same(part(w, a), part(w, b))
+    places::same(reader::part_of(w, a), reader::part_of(w, b))
 }
 
 // Whether a message's reference has the units of its number, in the same order.
@@ -135,9 +127,9 @@ fn or_own(w: &[u8], c: Span, own: Span) -> &[u8]
     ensures { λ r. ⌜ now r ≡ orHeld (cut (now (w .entry)) c) (cut (now (w .entry)) own) ⌝ }
 {
     if c % 65536 == 0 {
-        return part(w, own);
+        return reader::part_of(w, own);
     }
-    part(w, c)
+    reader::part_of(w, c)
 }
 
 // Whether a place is where something is.
@@ -157,11 +149,17 @@ fn keeps_key(w: &[u8], r: Record) -> bool
 {
     let o = r.parts.own;
     let c = r.parts.changes;
-    let a = places::same(or_own(w, c.aircraft, o.aircraft), part(w, o.aircraft));
-    let d = places::same(or_own(w, c.departure, o.departure), part(w, o.departure));
+    let a = places::same(
+        or_own(w, c.aircraft, o.aircraft),
+        reader::part_of(w, o.aircraft),
+    );
+    let d = places::same(
+        or_own(w, c.departure, o.departure),
+        reader::part_of(w, o.departure),
+    );
     let e = places::same(
         or_own(w, c.destination, o.destination),
-        part(w, o.destination),
+        reader::part_of(w, o.destination),
     );
     a & d & e
 }
@@ -201,7 +199,7 @@ fn code_fits(b: &[u8], w: &[u8], r: Record) -> bool
     if c % 65536 == 0 {
         return true;
     }
-    places::same(part(w, c), flights::text_at(b, 13, 4))
+    places::same(reader::part_of(w, c), flights::text_at(b, 13, 4))
 }
 
 // Whether it is offered, and the reference is the offer number.
@@ -252,9 +250,9 @@ pub fn decide(table: &[u8], w: &[u8], r: Record) -> Decision
     let d = deed_of(w, r);
     let p = flights::finding::find(
         table,
-        part(w, o.aircraft),
-        part(w, o.departure),
-        part(w, o.destination),
+        reader::part_of(w, o.aircraft),
+        reader::part_of(w, o.departure),
+        reader::part_of(w, o.destination),
     );
     match p {
         Place::At(i) => {

@@ -20,7 +20,7 @@ use Rattle.message.specs.declared.Record.{Record}
 use Rattle.message.specs.declared.Verdict.the-variants.{Read}
 use Rattle.reader.specs.Reading.{cut, Judged}
 use Rattle.scan.specs.Parts.{strange-sound}
-use Rattle.compose.specs.Layout.{filled, only, isNil, takesFirst, first, laid, sure, single, pieces, sameBool, samePieces, even, told, Tells, absent-part}
+use Rattle.compose.specs.Layout.{filled, only, isNil, takesFirst, first, laid, sure, single, pieces, samePieces, even, told, Tells, absent-part}
 use Rattle.compose.specs.Order.{Within, same, second}
 use Rattle.pen.specs.Listed.{spanOf}
 use Rattle.pen.specs.Laying.{none-given, ledBy, textAlternates, own-part}
@@ -29,6 +29,7 @@ use Rattle.compose.specs.Recorded.{typeOf, its, its-order, its-kind, its-bytes,
 use Rattle.excerpt.specs.Excerpt.{Texts, textsOf, field14Of}
 use Rattle.excerpt.specs.Pieces.{kept, fine, derived}
 use Rattle.excerpt.specs.Said.{own-said}
+use Rattle.scan.specs.Bools.{sameBool}
 
 -- the texts that say which flight it is
 pub record Named (t : Texts) : Type 0 where

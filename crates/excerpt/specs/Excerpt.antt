@@ -6,7 +6,8 @@ use lib.ListN.{length, take}
 use Rattle.changes.specs.declared.Plan.{Plan}
 use Rattle.types.specs.declared.Estimate.{Estimate}
 use Rattle.reader.specs.Reading.{cut}
-use Rattle.pen.specs.Laying.{AllInside, changeSpans, ledBy, textPair, text09, text10, text14, text15, textAlternates, text18}
+use Rattle.pen.specs.Laying.{AllInside, ledBy, textPair, text09, text10, text14, text15, textAlternates, text18}
+use Rattle.changes.specs.Found.{planSpans}
 
 -- the texts of the fields 07 to 18, each empty where it is not given; of field 16 the destination, and the rest from its
 -- fifth byte
@@ -59,7 +60,7 @@ pub record Short (t : Texts) : Type 0 where
 
 -- the parts lie within the text w, and their texts are short
 pub record FitsIn (w : List ℕ) (p : Plan) : Type 0 where
-  pub inside : AllInside w (changeSpans p)
+  pub inside : AllInside w (planSpans p)
   pub short : Short (textsOf w p)
 
 pub record Fits14 (w : List ℕ) (e : Estimate) : Type 0 where

@@ -19,8 +19,8 @@ use Rattle.message.specs.declared.Record.{Record}
 use Rattle.message.specs.declared.Verdict.the-variants.{Read}
 use Rattle.reader.specs.Reading.{Judged}
 use Rattle.pen.specs.declared.Pen.{Pen}
-use Rattle.pen.specs.Listed.{spanOf, Inside}
-use Rattle.pen.specs.Laying.{join, Stands, AllInside, Adds, start}
+use Rattle.pen.specs.Listed.{spanOf}
+use Rattle.pen.specs.Laying.{join, Stands, AllInside, Adds, start, all-inside}
 use Rattle.compose.specs.Recorded.{its-inside}
 use Rattle.excerpt.specs.Excerpt.{Texts, textsOf, field14Of, Short, FitsIn, Fits14, Starts}
 use Rattle.excerpt.specs.Said.{Said, own-said, changes-said, field14-said}
@@ -51,14 +51,6 @@ unfolding longest hour minute timed level3 level4 levelled bearing bearingFrom d
 short14 t d = at-most (opt in14) 27 refl t d
 
 -- THE PARTS
-
-abbrev pub spansAt : (ℕ → Span) → List ℕ → List Span
-spansAt f [] = []
-spansAt f (k ∷ ks) = f k ∷ spansAt f ks
-
-pub all-inside : (w : List ℕ) (f : ℕ → Span) → ((k : ℕ) → Inside w (f k)) → (ks : List ℕ) → AllInside w (spansAt f ks)
-all-inside w f h [] = tt
-all-inside w f h (k ∷ ks) = (h k, all-inside w f h ks)
 
 -- some of the parts: n of them after the first k
 firsts : (w : List ℕ) (qs : List Span) (n : ℕ) → AllInside w qs → AllInside w (take n qs)

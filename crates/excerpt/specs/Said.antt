@@ -16,7 +16,7 @@ use Rattle.message.specs.declared.Verdict.the-variants.{Read}
 use Rattle.reader.specs.Reading.{cut, Judged}
 use Rattle.message.specs.Record.{kindOf}
 use Rattle.types.specs.Picking.{lettersOf}
-use Rattle.compose.specs.Layout.{filled, only, isNil, takesFirst, first, laid, sure, single, pieces, sameBool, samePieces, even, told, Tells}
+use Rattle.compose.specs.Layout.{filled, only, isNil, takesFirst, first, laid, sure, single, pieces, samePieces, even, told, Tells}
 use Rattle.compose.specs.Order.{ordered, Within, same, cases, first as one-of}
 use Rattle.pen.specs.Listed.{spanOf}
 use Rattle.pen.specs.Laying.{own-part}
@@ -24,6 +24,7 @@ use Rattle.compose.specs.Composed.{sizes, bytesIn}
 use Rattle.compose.specs.Recorded.{ordered-plain, of-letters, its, its-order, its-bytes, its-size}
 use Rattle.excerpt.specs.Excerpt.{Texts, textsOf, field14Of}
 use Rattle.excerpt.specs.Pieces.{kept, fine, derived}
+use Rattle.scan.specs.Bools.{sameBool}
 
 -- each text is one of its rule, or empty
 pub record Said (t : Texts) : Type 0 where

@@ -9,7 +9,7 @@ use lib.ListN.{length, getD, take, drop}
 use lib.Seq.{getD-take, getD-drop}
 use lib.Dec.{leb}
 use borrow.Author.Tests.{leb-true}
-use Rattle.scan.specs.Bools.{and-l, and-r}
+use Rattle.scan.specs.Bools.{and-l, and-r, sameBool}
 use Rattle.scan.specs.declared.Class.the-variants.{Letter, Digit}
 use Rattle.scan.specs.Grammar.{placeOf, sizeOf, Span, G, run, words, part, isIn, all, Derives}
 use Rattle.scan.specs.Texts.{opt}
@@ -21,7 +21,7 @@ use Rattle.message.specs.declared.Record.{Record}
 use Rattle.message.specs.declared.Verdict.the-variants.{Read}
 use Rattle.message.specs.Record.{figure, figureIn}
 use Rattle.reader.specs.Reading.{cut, Judged}
-use Rattle.compose.specs.Layout.{filled, only, isNil, takesFirst, first, laid, sure, single, pieces, sameBool, samePieces, even, told, Tells}
+use Rattle.compose.specs.Layout.{filled, only, isNil, takesFirst, first, laid, sure, single, pieces, samePieces, even, told, Tells}
 use Rattle.compose.specs.Order.{ordered, Within, same}
 use Rattle.pen.specs.Listed.{spanOf}
 use Rattle.compose.specs.Recorded.{its, its-inside, cut-size}

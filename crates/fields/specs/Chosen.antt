@@ -19,7 +19,7 @@ use Rattle.scan.specs.Picks.{Same, same-trans, sunderLeaf, sunder, lies, within
 use Rattle.fields.specs.declared.Found15.{Found15}
 use Rattle.fields.specs.declared.Found18.{Found18}
 use Rattle.fields.specs.Names as n
-use Rattle.fields.specs.Fields.{hour, minute, level3, level4, levelled, bearing, bearingFrom, degrees, minutes, pointed, after15, in15, nothing18, inThree18, three18, inFour18, four18, in18}
+use Rattle.fields.specs.Fields.{hour, minute, level3, level4, levelled, bearing, bearingFrom, degrees, minutes, pointed, after15, in15, nothing18, inThree18, three18, inFour18, four18, in18, below60}
 use Rattle.fields.specs.Found.{foundRouted, foundAfter15, foundSped, found15, found18}
 
 abbrev early : G
@@ -27,9 +27,6 @@ early = one (Range 48 49) ⨾ one Digit
 
 abbrev late : G
 late = byte 50 ⨾ one (Range 48 51)
-
-abbrev below60 : G
-below60 = one (Range 48 53) ⨾ one Digit
 
 abbrev sixty : G
 sixty = lit (54 ∷ 48 ∷ [])

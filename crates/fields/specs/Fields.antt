@@ -68,8 +68,11 @@ g10 o = field ((o + n.equipment) ∷ (o + n.surveillance) ∷ []) (in10 o)
 unfoldable pub hour : G
 hour = alt (one (Range 48 49) ⨾ one Digit) (byte 50 ⨾ one (Range 48 51))
 
+abbrev pub below60 : G
+below60 = one (Range 48 53) ⨾ one Digit
+
 unfoldable pub minute : G
-minute = one (Range 48 53) ⨾ one Digit
+minute = below60
 
 unfoldable pub timed : G
 timed = hour ⨾ minute
@@ -104,7 +107,7 @@ levelled = alt level3 level4
 
 -- a bearing 000 to 360
 unfoldable pub bearing : G
-bearing = alt (one (Range 48 50) ⨾ run Digit 2 2) (byte 51 ⨾ alt (one (Range 48 53) ⨾ one Digit) (lit (54 ∷ 48 ∷ [])))
+bearing = alt (one (Range 48 50) ⨾ run Digit 2 2) (byte 51 ⨾ alt below60 (lit (54 ∷ 48 ∷ [])))
 
 -- a name of k letters or digits with a bearing and three digits
 unfoldable pub bearingFrom : ℕ → G

@@ -14,6 +14,7 @@ use Rattle.scan.specs.Bools.{and-l, and-r}
 use Rattle.scan.specs.Laws.{scan-alike, twice, one-on, run-spanned}
 use Rattle.fields.specs.Fields.{inNumbered}
 use Rattle.fields.specs.Found.{foundNumber}
+use Rattle.scan.specs.Parts.{whole as whole-from}
 
 -- the pieces of a whole number that stands at a place
 pub record Numbered (s : List ℕ) (at : ℕ) : Type 0 where
@@ -43,10 +44,6 @@ numbered-is s at h a b c d p q r t e =
       receiver = letters s (at + 5) (at + 9) (omega arith) (omega arith) (sym r ∙ and-r (a && b) c x);
       digits = digits s (at + 9) (at + 12) (omega arith) (omega arith) (sym t ∙ and-r (a && b && c) d e);
     }
-
--- a scan that is whole stands at its place
-pub whole-from : (r : Scan) → r .ok ≡ true → r ≡ from (r .next)
-whole-from r o = λ i. record { next = r .next; ok = o i }
 
 -- what the pieces of a whole number give
 module _ (s : List ℕ) (r : Scan) (o : r .ok ≡ true) (n : Numbered s (r .next)) where

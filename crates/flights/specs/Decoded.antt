@@ -8,7 +8,7 @@ use Prim.Native.Nat.{ℕ, _*_, _<_}
 use native.Mathlib.Omega.{arith}
 use lib.ListN.{length, replicate, length-append, length-replicate}
 use lib.Dec.{eqb}
-use Rattle.places.specs.Bytes.{same}
+use Rattle.places.specs.Bytes.{same, free}
 use Rattle.places.specs.Search.{firstFrom, countFrom}
 use Rattle.places.specs.Places.{Places, isFree, get, firstOf, used, Every, every-as, every-of}
 use Rattle.places.specs.Forms.{Form, bytesOr, bytesOf, placesFrom}
@@ -16,7 +16,7 @@ use Rattle.places.specs.Stored.{Kept, Fits, length-places, length-bytes, get-pl
 use Rattle.flights.specs.Padding.{inRow}
 use Rattle.flights.specs.Flight.{Status, filed, active, Flight, statusByte, widths, textsOf, recordOf, flightOf, Sound, WellFormed}
 use Rattle.flights.specs.Records.{texts-neat, flight-back}
-use Rattle.flights.specs.Table.{places, place, free, found, lowestFree, inUse}
+use Rattle.flights.specs.Table.{places, place, found, lowestFree, inUse}
 use Rattle.flights.specs.Formed.{TableFormed}
 use Rattle.flights.specs.Rows.{AllFit, neat-fit, row-long}
 

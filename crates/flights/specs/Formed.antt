@@ -12,8 +12,8 @@ use Rattle.scan.specs.Bools.{known, Decides, decides-and, decides-as}
 use Rattle.places.specs.Below.{Below}
 use Rattle.flights.specs.Padding.{padded, trimmed, padded-back}
 use Rattle.flights.specs.Flight.{flightOf, WellFormed}
-use Rattle.places.specs.Bytes.{same, same-is, wordAt}
-use Rattle.flights.specs.Table.{places, place, free, lent}
+use Rattle.places.specs.Bytes.{same, same-is, wordAt, free}
+use Rattle.flights.specs.Table.{places, place, lent}
 
 -- aircraft, departure and destination
 pub record SameKey (a b : List ℕ) : Type 0 where
@@ -33,12 +33,6 @@ pub record TableFormed (t : List ℕ) : Type 0 where
   pub keys : (i : ℕ) → i < places t → (j : ℕ) → j < i → Apart (place j t) (place i t)
 
 -- TWO PLACES
-
-pub free-apart : (a b : List ℕ) → free a ≡ true → Decides true (Apart a b)
-free-apart a b e = record { yes = λ q u v k. false≢true (sym u ∙ e); no = λ p. refl }
-
-pub other-free-apart : (a b : List ℕ) → free b ≡ true → Decides true (Apart a b)
-other-free-apart a b e = record { yes = λ q u v k. false≢true (sym v ∙ e); no = λ p. refl }
 
 keys-same : (a b : List ℕ) → Decides ((same (flightOf a .aircraft) (flightOf b .aircraft) && same (flightOf a .departure) (flightOf b .departure)) && same (flightOf a .destination) (flightOf b .destination)) (SameKey a b)
 keys-same a b =

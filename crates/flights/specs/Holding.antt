@@ -12,9 +12,10 @@ use Rattle.places.specs.Forms.{bytesOr}
 use Rattle.places.specs.Stored.{place-bytes}
 use Rattle.flights.specs.Flight.{Flight, recordOf, flightOf, WellFormed}
 use Rattle.flights.specs.Records.{flight-back}
-use Rattle.flights.specs.Table.{places, place, free}
+use Rattle.flights.specs.Table.{places, place}
 use Rattle.flights.specs.Formed.{Apart, TableFormed}
 use Rattle.flights.specs.Decoded.{readFlight, flightForm, flightsIn, tableOf, SoundPlace, sound-fits, table-long, flights-many, flight-at, flights-sound}
+use Rattle.places.specs.Bytes.{free}
 
 -- one key
 pub record Alike (f g : Flight) : Type 0 where

@@ -1,5 +1,4 @@
 pub mod Padding
-pub mod Stretches
 pub mod Rules
 pub mod Ends
 pub mod Trimming

@@ -10,6 +10,7 @@ use lib.Seq.{take-append-seam, drop-append-seam, length-take-le, take-add, drop-
 use lib.Dec.{eqb}
 use borrow.Author.Tests.{eqb-true}
 use Rattle.scan.specs.Bools.{and-l, and-r, known}
+use Rattle.splice.specs.Splice.{total}
 
 -- a text at the left of w bytes, the rest blank (32)
 abbrev pub padded : ℕ → List ℕ → List ℕ
@@ -29,10 +30,6 @@ abbrev pub inRow : List ℕ → List (List ℕ) → List ℕ
 inRow [] ts = []
 inRow (w ∷ ws) [] = []
 inRow (w ∷ ws) (t ∷ ts) = padded w t ++ inRow ws ts
-
-abbrev pub total : List ℕ → ℕ
-total [] = 0
-total (w ∷ ws) = w + total ws
 
 -- and cut out of the row again
 abbrev pub fromRow : List ℕ → List ℕ → List (List ℕ)

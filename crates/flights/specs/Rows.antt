@@ -4,9 +4,9 @@ use mathlib.Core.List.{List, [], _∷_, _++_, append-assoc}
 use Prim.Native.Nat.{ℕ, zero, suc, _+_, _≤_, _<_}
 use native.Mathlib.Omega.{arith}
 use lib.ListN.{length, getD, take, set, length-append}
-use Rattle.splice.specs.Splice.{splice}
+use Rattle.splice.specs.Splice.{splice, total}
 use Rattle.splice.specs.Inside.{splice-front, splice-behind}
-use Rattle.flights.specs.Padding.{padded, padded-length, inRow, total, AllNeat}
+use Rattle.flights.specs.Padding.{padded, padded-length, inRow, AllNeat}
 
 -- every text fits its width
 abbrev pub AllFit : List ℕ → List (List ℕ) → Type 0

@@ -1,7 +1,7 @@
 -- The field rules of a record's texts pass the test of the scanner.
 use mathlib.Core.Path.{_≡_, refl}
 use mathlib.Core.Bool.{true}
-use Rattle.scan.specs.declared.Class.the-variants.{Letter, Octal, Alnum}
+use Rattle.scan.specs.declared.Class.the-variants.{Octal, Alnum}
 use Rattle.scan.specs.Grammar.{run}
 use Rattle.scan.specs.Texts.{opt}
 use Rattle.scan.specs.Tests.{nullable, first, clear, apart, bytes, follow, some, good}
@@ -14,10 +14,6 @@ good-aircraft = refl
 pub good-code : good (opt (run Octal 4 4)) ≡ true
 unfolding some good
 good-code = refl
-
-pub good-place : good (run Letter 4 4) ≡ true
-unfolding some good
-good-place = refl
 
 pub good-time : good timed ≡ true
 unfolding nullable first clear apart bytes follow some good hour minute timed

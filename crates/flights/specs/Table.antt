@@ -7,22 +7,17 @@ use native.Mathlib.Nat.{add-zero}
 use native.Mathlib.Omega.{arith}
 use lib.ListN.{length, take, drop, getD, length-drop}
 use lib.Seq.{getD-take, getD-drop, length-take-le}
-use lib.Dec.{eqb}
 use borrow.Author.Tests.{eq-eqb, ne-eqb}
 use Rattle.places.specs.declared.Place.{Place}
 use Rattle.places.specs.Search.{firstFrom, countFrom}
 use Rattle.flights.specs.Flight.{flightOf}
-use Rattle.places.specs.Bytes.{same}
+use Rattle.places.specs.Bytes.{same, free}
 
 abbrev pub places : List ℕ → ℕ
 places t = length t / 768
 
 abbrev pub place : ℕ → List ℕ → List ℕ
 place i t = take 768 (drop (i * 768) t)
-
--- a place is free where its status is 0
-abbrev pub free : List ℕ → Bool
-free b = eqb (getD b 0 0) 0
 
 -- aircraft, departure and destination are the key; a used place has it
 abbrev pub hasKey : List ℕ → List ℕ → List ℕ → List ℕ → Bool

@@ -3,13 +3,13 @@ ghost use mathlib.Core.Path.{_≡_};
 ghost use Prim.Native.Nat.{_<_};
 ghost use lib.ListN.{length};
 ghost use Rattle.scan.specs.Bools.{Decides};
-ghost use Rattle.scan.specs.declared.Class.the-variants.{Letter, Octal, Alnum};
+ghost use Rattle.scan.specs.declared.Class.the-variants.{Octal, Alnum};
 ghost use Rattle.scan.specs.Grammar.{Derives, run};
 ghost use Rattle.scan.specs.Texts.{opt};
 ghost use Rattle.fields.specs.Fields.{timed, in08, in09, in10, in14, in15, rest16, in18};
-ghost use Rattle.flights.specs.Stretches.{passed};
 ghost use Rattle.flights.specs.Flight.{flightOf, WellFormed};
 ghost use Rattle.flights.specs.Checked.{Used, Texts, Filed, Active};
+ghost use Rattle.scan.specs.Theory.{passed};
 use scan::Scan;
 
 // Whether a scan is whole and went to the end.
@@ -31,12 +31,6 @@ fn is_code(t: &[u8]) -> bool
 {
     let r = Scan { next: 0, ok: true };
     whole(scan::longer(r, scan::octals(t, r, 4)), t)
-}
-
-fn is_place(t: &[u8]) -> bool
-    ensures { λ r. ⌜ Decides r (Derives (run Letter 4 4) (now (t .entry))) ⌝ }
-{
-    whole(scan::letters(t, Scan { next: 0, ok: true }, 4), t)
 }
 
 fn is_time(t: &[u8]) -> bool
@@ -100,8 +94,8 @@ fn texts_sound(b: &[u8]) -> bool
 {
     is_aircraft(crate::text_at(b, 6, 7))
         & is_code(crate::text_at(b, 13, 4))
-        & is_place(crate::text_at(b, 17, 4))
-        & is_place(crate::text_at(b, 25, 4))
+        & scan::is_name(crate::text_at(b, 17, 4))
+        & scan::is_name(crate::text_at(b, 25, 4))
         & is_08(crate::text_at(b, 29, 2))
         & is_09(crate::text_at(b, 31, 8))
         & is_10(crate::text_at(b, 39, 61))

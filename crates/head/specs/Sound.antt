@@ -1,21 +1,17 @@
 -- A WELL FORMED HEAD, by document 01: two different names of four letters; all numbers at most 999.
-use mathlib.Core.Path.{_≡_, refl, sym, ap, _∙_}
+use mathlib.Core.Path.{_≡_, sym, ap, _∙_}
 use mathlib.Core.Logic.{⊎-elim}
-use mathlib.Core.Bool.{Bool, true, not, _&&_, false≢true}
+use mathlib.Core.Bool.{Bool, not, _&&_, false≢true}
 use mathlib.Core.List.{List, [], _∷_}
 use Prim.Native.Nat.{ℕ, _≤_}
-use native.Mathlib.Omega.{arith}
 use lib.ListN.{length, getD}
 use lib.Dec.{eqb, leb}
-use borrow.Author.Tests.{leb-true, le-leb, not-true}
-use Rattle.scan.specs.declared.Scan.{Scan}
+use borrow.Author.Tests.{not-true}
 use Rattle.scan.specs.declared.Class.the-variants.{Letter}
-use Rattle.scan.specs.Bools.{known, Decides, decides-and, decides-as, equals}
+use Rattle.scan.specs.Bools.{known, Decides, decides-and, decides-as, equals, at-most}
 use Rattle.scan.specs.Grammar.{Derives, run}
-use Rattle.scan.specs.Scanner.{scanAt}
-use Rattle.scan.specs.Tests.{some, good}
-use Rattle.scan.specs.Theory.{accepts-of}
 use Rattle.head.specs.declared.Head.{Head}
+use Rattle.scan.specs.Laws.{four}
 
 -- two different names of four letters
 pub record Names (a b : List ℕ) : Type 0 where
@@ -29,21 +25,6 @@ pub record HeadFormed (h : Head) : Type 0 where
   pub highest : h .highest ≤ 999
 
 -- what the tests of the code decide
-
-name-good : good (run Letter 4 4) ≡ true
-unfolding some good
-name-good = refl
-
-pub name-is : (t : List ℕ) (q : Scan) → q ≡ scanAt (run Letter 4 4) t 0 → Decides (q .ok && eqb (q .next) (length t)) (Derives (run Letter 4 4) t)
-name-is t q h = let a = accepts-of (run Letter 4 4) name-good t q h in record { yes = a .0; no = a .1 }
-
-pub four : (a : List ℕ) → length a ≡ 4 → a ≡ getD a 0 0 ∷ getD a 1 0 ∷ getD a 2 0 ∷ getD a 3 0 ∷ []
-four [] e = absurd (omega (arith, e))
-four (x ∷ []) e = absurd (omega (arith, e))
-four (x ∷ y ∷ []) e = absurd (omega (arith, e))
-four (x ∷ y ∷ z ∷ []) e = absurd (omega (arith, e))
-four (x ∷ y ∷ z ∷ u ∷ []) e = refl
-four (x ∷ y ∷ z ∷ u ∷ v ∷ a) e = absurd (omega (arith, e))
 
 same-four : (a b : List ℕ) → length a ≡ 4 → length b ≡ 4 → Decides (((eqb (getD a 0 0) (getD b 0 0) && eqb (getD a 1 0) (getD b 1 0)) && eqb (getD a 2 0) (getD b 2 0)) && eqb (getD a 3 0) (getD b 3 0)) (a ≡ b)
 same-four a b m n =
@@ -60,9 +41,6 @@ other-four a b m n = go (((eqb (getD a 0 0) (getD b 0 0) && eqb (getD a 1 0) (ge
       yes = λ e p. false≢true (sym (not-true t e) ∙ d .no p);
       no = λ p. ⊎-elim (λ e. absurd (p (d .yes e))) (λ e. ap not e) (known t);
     }
-
-pub at-most : (m n : ℕ) → Decides (leb m n) (m ≤ n)
-at-most m n = record { yes = leb-true m n; no = le-leb m n }
 
 pub head-is : (h : Head) (x y z : Bool) → Decides x (Derives (run Letter 4 4) (h .ours)) → Decides y (Derives (run Letter 4 4) (h .partners)) → Decides z (h .ours ≡ h .partners → ⊥) → Decides ((((x && y) && z) && leb (h .next) 999) && leb (h .highest) 999) (HeadFormed h)
 head-is h x y z a b c =

@@ -2,11 +2,8 @@
 // comes back whole.
 ghost use mathlib.Core.Path.{_≡_};
 ghost use Rattle.scan.specs.Bools.{Decides};
-ghost use Rattle.scan.specs.declared.Class.the-variants.{Letter};
-ghost use Rattle.scan.specs.Grammar.{Derives, run};
 ghost use Rattle.head.specs.Head.{after, standing, received, given};
 ghost use Rattle.head.specs.Sound.{HeadFormed};
-use scan::Scan;
 
 pub struct Head {
     pub ours: [u8; 4],
@@ -33,14 +30,6 @@ fn following(n: usize) -> usize
     ensures { λ r. ⌜ r ≡ after n ⌝ }
 {
     (n % 1000 + 1) % 1000
-}
-
-// Whether a name is of four letters.
-fn is_name(t: &[u8]) -> bool
-    ensures { λ r. ⌜ Decides r (Derives (run Letter 4 4) (now (t .entry))) ⌝ }
-{
-    let q = scan::letters(t, Scan { next: 0, ok: true }, 4);
-    q.ok & (q.next == t.len())
 }
 
 impl Head {
@@ -86,8 +75,8 @@ impl Head {
         let a = self.ours;
         let b = self.partners;
         let same = (a[0] == b[0]) & (a[1] == b[1]) & (a[2] == b[2]) & (a[3] == b[3]);
-        let ours = is_name(&a);
-        let partners = is_name(&b);
+        let ours = scan::is_name(&a);
+        let partners = scan::is_name(&b);
         ours & partners & !same & (self.next <= 999) & (self.highest <= 999)
     }
 }

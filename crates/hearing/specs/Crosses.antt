@@ -23,11 +23,11 @@ use Rattle.places.specs.declared.Place.{Place}
 use Rattle.places.specs.declared.Place.the-variants.{At, Nowhere}
 use Rattle.places.specs.Places.{Places, get, set, get-set, set-set}
 use Rattle.flights.specs.Flight.{Status, filed, active, offered, Flight, flightOf, recordOf, Sound, WellFormed}
-use Rattle.flights.specs.Table.{places, place, free}
+use Rattle.flights.specs.Table.{places, place}
 use Rattle.flights.specs.Formed.{TableFormed}
 use Rattle.flights.specs.Decoded.{readFlight, flightsIn, tableOf, table-back, flight-at, flights-many, read-record}
 use Rattle.unanswered.specs.Waiting as kept
-use Rattle.unanswered.specs.Waiting.{Waiting, waitingOf, freeBytes, UnansweredFormed, found}
+use Rattle.unanswered.specs.Waiting.{Waiting, waitingOf, freeBytes, found}
 use Rattle.deeds.specs.declared.Deed.{Deed}
 use Rattle.deeds.specs.declared.Deed.the-variants.{Offers, Accepts}
 use Rattle.deeds.specs.declared.Decision.{Decision}
@@ -36,7 +36,7 @@ use Rattle.deeds.specs.Message.{Message, messageOf}
 use Rattle.deeds.specs.Deeds.{old, deedOf, isFiled, isCalm, refers, codeFits, makes, mayOn, may, sameKey, handedOff, becomesOn, becomes}
 use Rattle.deeds.specs.Applying.{whereIs, heldAt, flightUnder, other, orFree, home, decidedAt, decision, doneAt, after, applied}
 use Rattle.perform.specs.Performed.{Held, formed-held, Written, performed, places-after, sound-after, written-over, offered-sound}
-use Rattle.perform.specs.Ready.{ready}
+use Rattle.perform.specs.Ready.{ready, read-used}
 use Rattle.memory.specs.End.{End, lent, Formed, waitingIn, endOf}
 use Rattle.memory.specs.Held.{NumberedAt, waiting-at, found-waiting, waiting-back, freed}
 use Rattle.rules.specs.Replies.{Reply}
@@ -48,6 +48,7 @@ use Rattle.rules.specs.Receiving.{given, answering, about, handled, settled, se
 use Rattle.rules.specs.declared.Outcome.{Outcome}
 use Rattle.rules.specs.Calls.{Comes}
 use Rattle.hearing.specs.Hearing.{begun, Does, does-comes}
+use Rattle.places.specs.Bytes.{free}
 
 -- WHAT IS DECIDED OF THE TWO
 
@@ -117,7 +118,7 @@ offer-may q l i x (At j) g c =
     ap (λ (y : Option Flight). may Offers q y (other q l)) (sym g) ∙ ap (λ (k : ℕ). may Offers q (get k l) (other q l)) (sym (d .1)) ∙ d .0
 offer-may q l i x Nowhere g c = let z : _≡_ {A = ℕ} 0 1 = cc in absurd (omega arith)
 
-not-filed : (s : Status) → not (isFiled s) ≡ true → s ≡ active
+pub not-filed : (s : Status) → not (isFiled s) ≡ true → s ≡ active
 unfolding isFiled
 not-filed filed e = absurd (false≢true e)
 not-filed active e = refl
@@ -134,10 +135,6 @@ may-active q x y e =
 used-flight : (b : List ℕ) → WellFormed b → free b ≡ false → (x : Flight) × (b ≡ recordOf x) × Sound x
 used-flight b (inl e) n = absurd (false≢true (sym n ∙ ap free e))
 used-flight b (inr x) n = x
-
-read-used : (b : Bool) (x y : Flight) → cond b none (some x) ≡ some y → b ≡ false
-read-used true x y e = let z : _≡_ {A = ℕ} 0 1 = cc in absurd (omega arith)
-read-used false x y e = refl
 
 module _ (q : Message) (t : List ℕ) (i : ℕ) (k : TableFormed t) (o : isOffering (deedOf q) ≡ true) (h : decision q (flightsIn t) ≡ Done i) where
   pub offer-ready : (i < places t) × Held (place i t) × (makes Offers ≡ free (place i t))
@@ -194,9 +191,6 @@ nothing-waits m e p = ap (λ (x : Place). retireAt x m e) p
 
 held-waits : (m : Message) (e : End) (i : ℕ) (x : Waiting) (b : Bool) → waitingAt (m .reference) (e .unanswered) ≡ At i → get i (e .unanswered) ≡ some x → retires m (messageIn (x .text)) ≡ b → retireAt (waitingAt (m .reference) (e .unanswered)) m e ≡ cond b (settled i Rla (messageIn (x .text)) e) e
 held-waits m e i x b p g r = ap (λ (y : Place). retireAt y m e) p ∙ ap (retireHeld i m e) g ∙ ap (λ (c : Bool). cond c (settled i Rla (messageIn (x .text)) e) e) r
-
-pub waits-at : {ours partners t : List ℕ} → UnansweredFormed ours partners t → (n i : ℕ) → found n t ≡ At i → NumberedAt n ours partners t i
-waits-at {ours} {partners} {t} f n i p = waiting-at f n i (sym (found-waiting n t) ∙ p)
 
 module _ {n : ℕ} {ours partners t : List ℕ} {i : ℕ} (w : NumberedAt n ours partners t i) where
   -- it is one that is read

@@ -1,7 +1,7 @@
 -- How a call comes out.
 use mathlib.Core.Path.{_≡_, refl, sym, ap, _∙_, subst}
 use mathlib.Core.Bool.{Bool, true, false, cond, false≢true}
-use mathlib.Core.List.{List, _++_}
+use mathlib.Core.List.{List, _++_, append-nil}
 use Prim.Native.Nat.{ℕ, _≤_}
 use native.Mathlib.Omega.{arith}
 use lib.ListN.{length, drop, drop-of-length-le}
@@ -21,7 +21,6 @@ use Rattle.rules.specs.Calls.{refusalIn, lengthIn, Called}
 use Rattle.link.specs.Sends.{Sent}
 use Rattle.packed.specs.Packed.{packedOf, recordIn}
 use Rattle.packed.specs.Head.{headIn, headBytes}
-use Rattle.packed.specs.Written.{nothing-after}
 use Rattle.host.specs.Calls.{Ran, Resent, Checked, ReadInto, WroteFrom, WordsAt}
 
 -- ON AN END
@@ -63,7 +62,7 @@ module _ {text b : List ℕ} (v : Verdict) (r : Record) (z : length b ≡ 246) (
   pub read-into : {b′ : List ℕ} → v ≡ Read → b′ ≡ packedOf r ++ drop 246 b → ReadInto text b 0 0 0 b′
   read-into {b′} e w =
       let y : length b ≤ 246 = omega arith in
-      let x : b′ ≡ packedOf r = w ∙ ap (λ (l : List ℕ). packedOf r ++ l) (drop-of-length-le b y) ∙ nothing-after (packedOf r) in
+      let x : b′ ≡ packedOf r = w ∙ ap (λ (l : List ℕ). packedOf r ++ l) (drop-of-length-le b y) ∙ append-nil (packedOf r) in
       record {
         sized = λ _. (Read, r, subst (λ (u : Verdict). Judged text u r) e j, refl, refl, refl, x);
         unsized = λ k. absurd (k z);

@@ -4,19 +4,21 @@ use mathlib.Core.Bool.{Bool, false, _&&_, false≢true}
 use mathlib.Core.List.{List, [], _∷_, _++_}
 use Prim.Native.Nat.{ℕ, _+_, _*_, _≤_}
 use native.Mathlib.Omega.{arith}
-use lib.ListN.{length, getD, replicate, length-replicate, drop-of-length-le}
+use lib.ListN.{length, getD, replicate, length-replicate}
 use lib.Dec.{eqb, leb}
 use Rattle.scan.specs.declared.Class.the-variants.{Letter}
 use Rattle.scan.specs.Grammar.{Derives, run}
-use Rattle.scan.specs.Bools.{Decides, decides-and, decides-as, equals}
-use Rattle.splice.specs.Splice.{splice, Spliced}
+use Rattle.scan.specs.Bools.{Decides, decides-and, decides-as, equals, at-most}
+use Rattle.splice.specs.Splice.{Spliced}
 use Rattle.head.specs.declared.Head.{Head}
-use Rattle.head.specs.Sound.{Names, HeadFormed, four, at-most}
+use Rattle.head.specs.Sound.{Names, HeadFormed}
 use Rattle.flights.specs.Table.{places}
 use Rattle.memory.specs.End.{Memory, lent}
 use Rattle.memory.specs.Held.{table-empty, waiting-empty}
 use Rattle.rules.specs.declared.Answer.the-variants.{Done, NotFormed, BadNames}
 use Rattle.link.specs.SetUp.{Sized, Sizes, firstHead, SetsUp}
+use Rattle.splice.specs.Splicing.{over-all}
+use Rattle.scan.specs.Laws.{four}
 
 -- SIZES
 
@@ -59,16 +61,10 @@ head-first a b m n = sym (λ i. firstHead (four a m i) (four b n i))
 
 -- ZERO BYTES
 
-nothing-after : (l : List ℕ) → l ++ [] ≡ l
-nothing-after [] = refl
-nothing-after (x ∷ l) = ap (λ (r : List ℕ). x ∷ r) (nothing-after l)
-
 pub cleared : (d e : List ℕ) (r : ℕ) → Spliced 0 (replicate (length d) 0) d e r → e ≡ replicate (length d) 0
-unfolding splice
 cleared d e r p =
     let z : length {A = ℕ} (replicate (length d) 0) ≡ length d = length-replicate {A = ℕ} (length d) 0 in
-    let y : length d ≤ 0 + length {A = ℕ} (replicate (length d) 0) = omega (arith, z) in
-    p .bytes ∙ ap (λ (x : List ℕ). replicate (length d) 0 ++ x) (drop-of-length-le d y) ∙ nothing-after (replicate (length d) 0)
+    over-all (replicate (length d) 0) d e r p (omega arith)
 
 -- THE CALL
 

@@ -19,6 +19,7 @@ use Rattle.list.specs.Progress.{mostLines, room, soundly, Holds, After}
 use Rattle.splice.specs.Splicing.{front, behind, same-bytes}
 use Rattle.lines.proofs.Feeding.{take-most}
 use Rattle.lines.proofs.Lines.{ended-append, ended-part, ended-line, unfinished-append, unfinished-part, unfinished-line, lines-more, read-more, all-counted, at-most-one, line-by-beginning, same-line, same-verdict, kept-append}
+use Rattle.scan.specs.Bools.{and-yes, neither}
 
 -- part was put behind the bytes that are held, as far as there is room
 kept-part : (held n : ℕ) (line part : List ℕ) → held ≤ 1078 → length line ≡ 1078 → n ≡ min (1078 - held) (length part)
@@ -191,10 +192,6 @@ finish-odd xs ys line tally good a h e =
 
 -- ---- tallies that `start` and `feed` make
 
-and-true : (t u : Bool) → t && u ≡ true → (t ≡ true) × (u ≡ true)
-and-true true u e = (refl, e)
-and-true false u e = ((cc), (cc))
-
 -- what the test of a tally says
 pub record Sound (tally : Tally) : Type 0 where
   pub some : tally .read ≤ tally .lines
@@ -203,8 +200,8 @@ pub record Sound (tally : Tally) : Type 0 where
 
 pub sound-of : (tally : Tally) → soundly tally ≡ true → Sound tally
 sound-of tally e =
-    let p = and-true _ _ e in
-    let q = and-true _ _ (p .0) in
+    let p = and-yes _ _ e in
+    let q = and-yes _ _ (p .0) in
     record { some = leb-true _ _ (q .0); few = leb-true _ _ (q .1); short = leb-true _ _ (p .1) }
 
 sound-after : (xs ys line : List ℕ) (tally : Tally) → After xs ys tally line → soundly tally ≡ true
@@ -218,15 +215,11 @@ unsound xs ys line tally a h = let z : true ≡ false = sym (sound-after xs ys l
 
 -- ---- the loop over the lines of a piece
 
-or-false : (t u : Bool) → t || u ≡ false → (t ≡ false) × (u ≡ false)
-or-false true u e = ((cc), (cc))
-or-false false u e = (refl, e)
-
 -- where another line is taken it is counted, and out has room for it
 pub may-go : (lines written size : ℕ) → lines ≤ mostLines → written ≤ size → eqb lines mostLines || ltb (size - written) room ≡ false
     → (lines < mostLines) × (written + room ≤ size)
 may-go lines written size h k e =
-    let p = or-false _ _ e in
+    let p = neither _ _ e in
     let q = eqb-false lines mostLines (p .0) in
     (omega (arith, q), omega (arith, ltb-false (size - written) room (p .1)))
 

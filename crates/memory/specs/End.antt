@@ -11,8 +11,9 @@ use Rattle.places.specs.Forms.{Form, bytesOf, placesFrom}
 use Rattle.flights.specs.Flight.{Flight}
 use Rattle.flights.specs.Formed.{TableFormed}
 use Rattle.flights.specs.Decoded.{flightsIn, tableOf}
-use Rattle.unanswered.specs.Waiting.{Waiting, waitingBytes, waitingOf, free, UnansweredFormed}
+use Rattle.unanswered.specs.Waiting.{Waiting, waitingBytes, waitingOf, UnansweredFormed}
 use Rattle.answers.specs.Given.{AnswersFormed}
+use Rattle.places.specs.Bytes.{free}
 
 -- One link has a small head, a table of flights sent and one of flights received, 16 places for unanswered messages, and 1,000
 -- bytes of given answers, one for each number

@@ -14,14 +14,14 @@ use Rattle.splice.specs.Splice.{splice}
 use Rattle.head.specs.declared.Head.{Head}
 use Rattle.head.specs.Sound.{HeadFormed}
 use Rattle.places.specs.declared.Place.the-variants.{At}
-use Rattle.places.specs.Bytes.{numberAt}
+use Rattle.places.specs.Bytes.{numberAt, free}
 use Rattle.places.specs.Search.{firstFrom}
 use Rattle.places.specs.Places.{isFree, get, set, firstOf, empty, Every, every-of, found-below, found-has}
 use Rattle.places.specs.Forms.{bytesOr, bytesOf}
 use Rattle.places.specs.Stored.{Fits, length-places, get-places, first-places, bytes-back, bytes-set, bytes-empty}
 use Rattle.flights.specs.Formed.{TableFormed}
 use Rattle.flights.specs.Decoded.{flightForm, tableOf, table-back}
-use Rattle.unanswered.specs.Waiting.{Waiting, waitingBytes, freeBytes, waitingOf, Proper, WellFormed, place, free, UnansweredFormed, found, lowestFree}
+use Rattle.unanswered.specs.Waiting.{Waiting, waitingBytes, freeBytes, waitingOf, Proper, WellFormed, place, UnansweredFormed, found, lowestFree}
 use Rattle.unanswered.specs.Encoded as encoded
 use Rattle.unanswered.specs.Encoded.{bytes-long, proper-short}
 use Rattle.unanswered.specs.Deciding.{formed-short, formed-proper}

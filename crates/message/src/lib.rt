@@ -10,6 +10,8 @@ use changes::Plan;
 use scan::Span;
 use types::Parts;
 
+pub mod numbered;
+
 // The types; None is that of no message.
 pub enum Kind {
     None,

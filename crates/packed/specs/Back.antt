@@ -5,47 +5,19 @@ use native.Mathlib.Omega.{arith}
 use lib.ListN.{length, getD}
 use lib.Dec.{leb}
 use Rattle.scan.specs.Grammar.{Span, span, placeOf, sizeOf}
-use Rattle.message.specs.declared.Kind.{Kind}
-use Rattle.message.specs.declared.Kind.the-variants.{None, Fpl, Cpl, Est, Chg, Cnl, Rti, Rta, Rla, Lam, Lrm}
+use Rattle.message.specs.declared.Kind.the-variants.{None}
 use Rattle.message.specs.declared.LevelKind.{LevelKind}
 use Rattle.message.specs.declared.LevelKind.the-variants.{Absent, FlightLevel, Altitude, MetricLevel, MetricAltitude, Vfr}
 use Rattle.message.specs.declared.PointForm.{PointForm}
 use Rattle.message.specs.declared.PointForm.the-variants.{NoPoint, Name, Bearing, Degrees, Minutes}
 use Rattle.message.specs.declared.Record.{Record}
 use Rattle.packed.specs.Numbers.{Small, bytes-long, held-back}
-use Rattle.packed.specs.Packed.{kindNumber, levelNumber, formNumber, kindIn, levelKindIn, formIn, numbersOf, packedOf, known, kindBy, partsBy, recordBy, recordIn}
+use Rattle.packed.specs.Packed.{numbersOf, packedOf, known, kindBy, partsBy, recordBy, recordIn}
+use Rattle.message.specs.Numbered.{kindNumber, levelNumber, formNumber, numberedKind, kind-back, level-back, form-back}
 
 pub packed-long : (r : Record) → length (packedOf r) ≡ 246
 unfolding packedOf
 packed-long r = bytes-long (numbersOf r)
-
-kind-back : (k : Kind) → kindIn (kindNumber k) ≡ k
-kind-back None = refl
-kind-back Fpl = refl
-kind-back Cpl = refl
-kind-back Est = refl
-kind-back Chg = refl
-kind-back Cnl = refl
-kind-back Rti = refl
-kind-back Rta = refl
-kind-back Rla = refl
-kind-back Lam = refl
-kind-back Lrm = refl
-
-level-back : (k : LevelKind) → levelKindIn (levelNumber k) ≡ k
-level-back Absent = refl
-level-back FlightLevel = refl
-level-back Altitude = refl
-level-back MetricLevel = refl
-level-back MetricAltitude = refl
-level-back Vfr = refl
-
-form-back : (k : PointForm) → formIn (formNumber k) ≡ k
-form-back NoPoint = refl
-form-back Name = refl
-form-back Bearing = refl
-form-back Degrees = refl
-form-back Minutes = refl
 
 span-back : (p : Span) → span (placeOf p) (sizeOf p) ≡ p
 span-back p = omega arith
@@ -81,7 +53,7 @@ parts-back r = simp span-back
 numbers-back : (r : Record) → recordBy (λ k. getD (numbersOf r) k 0) ≡ r
 unfolding recordBy kindBy
 numbers-back r = λ i. record {
-  kind = (ap (λ (b : Bool). cond b (kindIn (kindNumber (r .kind))) None) (known-back r) ∙ kind-back (r .kind)) i;
+  kind = (ap (λ (b : Bool). cond b (numberedKind (kindNumber (r .kind))) None) (known-back r) ∙ kind-back (r .kind)) i;
   parts = parts-back r i;
   figures = record {
     number = r .figures .number;

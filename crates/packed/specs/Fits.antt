@@ -32,8 +32,9 @@ use Rattle.message.specs.declared.Verdict.the-variants.{Read}
 use Rattle.message.specs.Record.{figure, figureAt, levelKindOf, levelIn, figuresOf, recordBy}
 use Rattle.reader.specs.Reading.{Judged}
 use Rattle.packed.specs.Numbers.{Small}
-use Rattle.packed.specs.Packed.{kindNumber, levelNumber, formNumber, spanNumbers, partsNumbers, figureNumbers, numbersOf, packedOf, recordIn}
+use Rattle.packed.specs.Packed.{spanNumbers, partsNumbers, figureNumbers, numbersOf, packedOf, recordIn}
 use Rattle.packed.specs.Back.{packed-back}
+use Rattle.message.specs.Numbered.{kindNumber, levelNumber, formNumber}
 
 -- BYTES OF AT MOST 90, which is Z
 

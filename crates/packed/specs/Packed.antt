@@ -12,63 +12,28 @@
 use mathlib.Core.Bool.{Bool, cond, _&&_}
 use mathlib.Core.List.{List, [], _∷_, _++_}
 use Prim.Native.Nat.{ℕ, _+_}
-use lib.Dec.{eqb, leb}
+use lib.Dec.{leb}
 use Rattle.scan.specs.Grammar.{Span, span, placeOf, sizeOf}
 use Rattle.changes.specs.declared.Plan.{Plan}
 use Rattle.types.specs.declared.Number.{Number}
 use Rattle.types.specs.declared.Estimate.{Estimate}
 use Rattle.types.specs.declared.Parts.{Parts}
 use Rattle.message.specs.declared.Kind.{Kind}
-use Rattle.message.specs.declared.Kind.the-variants.{None, Fpl, Cpl, Est, Chg, Cnl, Rti, Rta, Rla, Lam, Lrm}
-use Rattle.message.specs.declared.LevelKind.{LevelKind}
-use Rattle.message.specs.declared.LevelKind.the-variants.{Absent, FlightLevel, Altitude, MetricLevel, MetricAltitude, Vfr}
-use Rattle.message.specs.declared.PointForm.{PointForm}
-use Rattle.message.specs.declared.PointForm.the-variants.{NoPoint, Name, Bearing, Degrees, Minutes}
+use Rattle.message.specs.declared.Kind.the-variants.{None}
 use Rattle.message.specs.declared.Level.{Level}
 use Rattle.message.specs.declared.PlanFigures.{PlanFigures}
 use Rattle.message.specs.declared.Figures.{Figures}
 use Rattle.message.specs.declared.Record.{Record}
 use Rattle.packed.specs.Numbers.{bytesIn, held}
+use Rattle.message.specs.Numbered.{kindNumber, levelNumber, formNumber, numberedKind, numberedLevel, numberedForm}
+use Rattle.changes.specs.Found.{planSpans}
 
 -- WHAT IS WRITTEN
-
-abbrev pub kindNumber : Kind → ℕ
-kindNumber None = 0
-kindNumber Fpl = 1
-kindNumber Cpl = 2
-kindNumber Est = 3
-kindNumber Chg = 4
-kindNumber Cnl = 5
-kindNumber Rti = 6
-kindNumber Rta = 7
-kindNumber Rla = 8
-kindNumber Lam = 9
-kindNumber Lrm = 10
-
-abbrev pub levelNumber : LevelKind → ℕ
-levelNumber Absent = 0
-levelNumber FlightLevel = 1
-levelNumber Altitude = 2
-levelNumber MetricLevel = 3
-levelNumber MetricAltitude = 4
-levelNumber Vfr = 5
-
-abbrev pub formNumber : PointForm → ℕ
-formNumber NoPoint = 0
-formNumber Name = 1
-formNumber Bearing = 2
-formNumber Degrees = 3
-formNumber Minutes = 4
 
 -- the parts in their order
 
 abbrev numberSpans : Number → List Span
 numberSpans n = n .sender ∷ n .receiver ∷ n .digits ∷ []
-
-abbrev planSpans : Plan → List Span
-planSpans p =
-    p .aircraft ∷ p .code ∷ p .rules ∷ p .flight ∷ p .count ∷ p .model ∷ p .wake ∷ p .equipment ∷ p .surveillance ∷ p .departure
-    ∷ p .time ∷ p .speed ∷ p .level ∷ p .route ∷ p .destination ∷ p .elapsed ∷ p .alternate ∷ p .alternate2 ∷ p .indicator ∷ p .other ∷ []
 
 abbrev estimateSpans : Estimate → List Span
 estimateSpans e = e .point ∷ e .over ∷ e .crossing ∷ e .second ∷ e .sense ∷ []
@@ -104,17 +69,6 @@ unfoldable pub packedOf : Record → List ℕ
 packedOf r = bytesIn (numbersOf r)
 
 -- WHAT IS READ OFF
-
-abbrev pub kindIn : ℕ → Kind
-kindIn n =
-    cond (eqb n 1) Fpl (cond (eqb n 2) Cpl (cond (eqb n 3) Est (cond (eqb n 4) Chg (cond (eqb n 5) Cnl
-    (cond (eqb n 6) Rti (cond (eqb n 7) Rta (cond (eqb n 8) Rla (cond (eqb n 9) Lam (cond (eqb n 10) Lrm None)))))))))
-
-abbrev pub levelKindIn : ℕ → LevelKind
-levelKindIn n = cond (eqb n 1) FlightLevel (cond (eqb n 2) Altitude (cond (eqb n 3) MetricLevel (cond (eqb n 4) MetricAltitude (cond (eqb n 5) Vfr Absent))))
-
-abbrev pub formIn : ℕ → PointForm
-formIn n = cond (eqb n 1) Name (cond (eqb n 2) Bearing (cond (eqb n 3) Degrees (cond (eqb n 4) Minutes NoPoint)))
 
 -- f gives each number by its place, and k is the place of the first
 
@@ -152,7 +106,7 @@ abbrev pub estimateBy : (ℕ → ℕ) → ℕ → Estimate
 estimateBy f k = record { point = spanBy f k; over = spanBy f (k + 2); crossing = spanBy f (k + 4); second = spanBy f (k + 6); sense = spanBy f (k + 8) }
 
 abbrev pub levelBy : (ℕ → ℕ) → ℕ → Level
-levelBy f k = record { kind = levelKindIn (f k); figure = f (k + 1) }
+levelBy f k = record { kind = numberedLevel (f k); figure = f (k + 1) }
 
 abbrev pub planFiguresBy : (ℕ → ℕ) → ℕ → PlanFigures
 planFiguresBy f k = record { count = f k; level = levelBy f (k + 1) }
@@ -174,7 +128,7 @@ figuresBy f = record {
   number = f 109;
   reference = f 110;
   own = planFiguresBy f 111;
-  form = formIn (f 114);
+  form = numberedForm (f 114);
   crossing = levelBy f 115;
   second = levelBy f 117;
   changes = planFiguresBy f 119;
@@ -187,7 +141,7 @@ known f = (((leb (f 112) 5 && leb (f 114) 4) && leb (f 115) 5) && leb (f 117) 5)
 
 -- a type above 10 is none; and what a level or a point cannot be is in no message
 unfoldable pub kindBy : (ℕ → ℕ) → Kind
-kindBy f = cond (known f) (kindIn (f 0)) None
+kindBy f = cond (known f) (numberedKind (f 0)) None
 
 unfoldable pub recordBy : (ℕ → ℕ) → Record
 recordBy f = record { kind = kindBy f; parts = partsBy f; figures = figuresBy f }

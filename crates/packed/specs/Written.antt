@@ -1,27 +1,17 @@
 -- A head that was written over 12 bytes.
-use mathlib.Core.Path.{_≡_, refl, ap, _∙_}
+use mathlib.Core.Path.{_≡_, refl, _∙_}
 use mathlib.Core.List.{List, [], _∷_, _++_}
 use Prim.Native.Nat.{ℕ, _+_, _≤_}
 use native.Mathlib.Omega.{arith}
-use lib.ListN.{length, drop-of-length-le}
+use lib.ListN.{length}
 use Rattle.head.specs.declared.Head.{Head}
-use Rattle.splice.specs.Splice.{splice, Spliced}
+use Rattle.splice.specs.Splice.{Spliced}
 use Rattle.splice.specs.Splicing as splicing
 use Rattle.packed.specs.Numbers.{bytesIn}
 use Rattle.packed.specs.Laid.{Puts, spliced}
 use Rattle.packed.specs.Laid as laid
 use Rattle.packed.specs.Head.{headBytes}
-
-pub nothing-after : (l : List ℕ) → l ++ [] ≡ l
-nothing-after [] = refl
-nothing-after (x ∷ l) = ap (λ (r : List ℕ). x ∷ r) (nothing-after l)
-
--- what was written over all
-over-all : (s d e : List ℕ) (n : ℕ) → Spliced 0 s d e n → length s ≡ length d → e ≡ s
-unfolding splice
-over-all s d e n p z =
-    let y : length d ≤ 0 + length s = omega arith in
-    p .bytes ∙ ap (λ (x : List ℕ). s ++ x) (drop-of-length-le d y) ∙ nothing-after s
+use Rattle.splice.specs.Splicing.{over-all}
 
 module _ (h : Head) (m : length (h .ours) ≡ 4) (n : length (h .partners) ≡ 4) (b c d e f : List ℕ) (z : length b ≡ 12) where
   pub head-put : {i j k l : ℕ} → Spliced 0 (h .ours) b c i → Spliced 4 (h .partners) c d j → Puts 4 (h .next ∷ []) d e k → Puts 5 (h .highest ∷ []) e f l → f ≡ headBytes h

@@ -3,7 +3,7 @@ ghost use mathlib.Core.Path.{_≡_};
 ghost use mathlib.Core.List.{[], _∷_, _++_};
 ghost use Prim.Native.Nat.{_+_, _*_, _≤_};
 ghost use lib.ListN.{length, drop};
-ghost use Rattle.packed.specs.Packed.{kindNumber, levelNumber, formNumber, spanNumbers, partSpans, partsNumbers, levelNumbers, planFigureNumbers, figureNumbers, packedOf};
+ghost use Rattle.packed.specs.Packed.{spanNumbers, partSpans, partsNumbers, levelNumbers, planFigureNumbers, figureNumbers, packedOf};
 ghost use Rattle.packed.specs.Laid.{Puts};
 use message::Figures;
 use message::Kind;
@@ -17,49 +17,6 @@ use types::Parts;
 
 pub mod head_bytes;
 pub mod unpacked;
-
-fn kind_number(k: Kind) -> usize
-    ensures { λ r. ⌜ r ≡ kindNumber k ⌝ }
-{
-    match k {
-        Kind::None => 0,
-        Kind::Fpl => 1,
-        Kind::Cpl => 2,
-        Kind::Est => 3,
-        Kind::Chg => 4,
-        Kind::Cnl => 5,
-        Kind::Rti => 6,
-        Kind::Rta => 7,
-        Kind::Rla => 8,
-        Kind::Lam => 9,
-        Kind::Lrm => 10,
-    }
-}
-
-fn level_number(k: LevelKind) -> usize
-    ensures { λ r. ⌜ r ≡ levelNumber k ⌝ }
-{
-    match k {
-        LevelKind::Absent => 0,
-        LevelKind::FlightLevel => 1,
-        LevelKind::Altitude => 2,
-        LevelKind::MetricLevel => 3,
-        LevelKind::MetricAltitude => 4,
-        LevelKind::Vfr => 5,
-    }
-}
-
-fn form_number(k: PointForm) -> usize
-    ensures { λ r. ⌜ r ≡ formNumber k ⌝ }
-{
-    match k {
-        PointForm::NoPoint => 0,
-        PointForm::Name => 1,
-        PointForm::Bearing => 2,
-        PointForm::Degrees => 3,
-        PointForm::Minutes => 4,
-    }
-}
 
 // Writes n as the k-th number, and answers the place behind it. So do the others, for several.
 pub(crate) fn put_one(out: &mut [u8], k: usize, n: usize) -> usize
@@ -162,7 +119,7 @@ fn put_level(out: &mut [u8], k: usize, l: Level) -> usize
     ensures { λ r. ⌜ Puts k (levelNumbers l) (now (out .entry)) (now (out .exit)) r ⌝ }
 {
     let kind = l.kind;
-    let a = put_one(out, k, level_number(kind));
+    let a = put_one(out, k, message::numbered::level_number(kind));
     put_one(out, a, l.figure)
 }
 
@@ -182,7 +139,7 @@ fn put_figures(out: &mut [u8], k: usize, f: Figures) -> usize
     let a = put_one(out, k, f.number);
     let b = put_one(out, a, f.reference);
     let c = put_plan_figures(out, b, f.own);
-    let d = put_one(out, c, form_number(form));
+    let d = put_one(out, c, message::numbered::form_number(form));
     let e = put_level(out, d, f.crossing);
     let g = put_level(out, e, f.second);
     let h = put_plan_figures(out, g, f.changes);
@@ -195,7 +152,7 @@ pub fn put(out: &mut [u8], r: Record)
     ensures { λ _. ⌜ now (out .exit) ≡ packedOf r ++ drop 246 (now (out .entry)) ⌝ }
 {
     let kind = r.kind;
-    let a = put_one(out, 0, kind_number(kind));
+    let a = put_one(out, 0, message::numbered::kind_number(kind));
     let b = put_parts(out, a, r.parts);
     put_figures(out, b, r.figures);
 }

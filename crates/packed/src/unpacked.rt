@@ -3,7 +3,8 @@ ghost use mathlib.Core.Path.{_≡_};
 ghost use Prim.Native.Nat.{_+_, _*_, _≤_, _<_};
 ghost use lib.ListN.{length};
 ghost use Rattle.packed.specs.Numbers.{held};
-ghost use Rattle.packed.specs.Packed.{kindIn, levelKindIn, formIn, spanBy, numberBy, planBy, estimateBy, levelBy, planFiguresBy, partsBy, figuresBy, known, kindBy, recordIn};
+ghost use Rattle.packed.specs.Packed.{spanBy, numberBy, planBy, estimateBy, levelBy, planFiguresBy, partsBy, figuresBy, known, kindBy, recordIn};
+ghost use Rattle.message.specs.Numbered.{numberedKind, numberedLevel, numberedForm};
 use changes::Plan;
 use message::Figures;
 use message::Kind;
@@ -19,7 +20,7 @@ use types::Parts;
 
 // What number stands for which kind; the first where none does.
 fn kind_in(n: usize) -> Kind
-    ensures { λ r. ⌜ r ≡ kindIn n ⌝ }
+    ensures { λ r. ⌜ r ≡ numberedKind n ⌝ }
 {
     if n == 1 {
         return Kind::Fpl;
@@ -55,7 +56,7 @@ fn kind_in(n: usize) -> Kind
 }
 
 fn level_kind_in(n: usize) -> LevelKind
-    ensures { λ r. ⌜ r ≡ levelKindIn n ⌝ }
+    ensures { λ r. ⌜ r ≡ numberedLevel n ⌝ }
 {
     if n == 1 {
         return LevelKind::FlightLevel;
@@ -76,7 +77,7 @@ fn level_kind_in(n: usize) -> LevelKind
 }
 
 fn form_in(n: usize) -> PointForm
-    ensures { λ r. ⌜ r ≡ formIn n ⌝ }
+    ensures { λ r. ⌜ r ≡ numberedForm n ⌝ }
 {
     if n == 1 {
         return PointForm::Name;

@@ -6,23 +6,22 @@ use mathlib.Core.Option.{Option, none, some}
 use mathlib.Core.List.{List}
 use Prim.Native.Nat.{ℕ}
 use native.Mathlib.Omega.{arith}
-use Rattle.pair.specs.kinds.Tools.{get-below, key-yes}
+use Rattle.pair.specs.kinds.Tools.{get-below}
 use Rattle.places.specs.declared.Place.{Place}
 use Rattle.places.specs.declared.Place.the-variants.{At, Nowhere}
 use Rattle.flights.specs.Flight.{Flight, recordOf}
 use Rattle.flights.specs.Formed.{TableFormed}
 use Rattle.flights.specs.Decoded.{flightsIn, flights-many, record-at, found-places}
 use Rattle.deeds.specs.Message.{Message}
-use Rattle.deeds.specs.Deeds.{Key, sameKey, deedOf, old, new}
+use Rattle.deeds.specs.Deeds.{Key, deedOf}
 use Rattle.deeds.specs.Applying.{whereIs}
 use Rattle.memory.specs.End.{waitingIn}
 use Rattle.rules.specs.Reads.{messageIn}
 use Rattle.rules.specs.Answers.{isAcceptance}
-use Rattle.rules.specs.Sending.{oneOf}
 use Rattle.pair.specs.kinds.Kinds.{Content, own, near, contentOf, messageOf}
 use Rattle.pair.specs.kinds.Views.{View}
 use Rattle.pair.specs.kinds.Ends.{byKey, waitsIn}
-use Rattle.pair.specs.exchange.KindFacts.{Names}
+use Rattle.pair.specs.exchange.KindFacts.{Names, one-of}
 use Rattle.pair.specs.exchange.Agreement as agreement
 use Rattle.pair.specs.views.Tables.{under-is}
 use Rattle.pair.specs.views.Waits.{waits-some}
@@ -49,15 +48,6 @@ record-under t w k = ap (λ (p : Place). bytesAt p t) (found-places (k .aircraft
 
 -- A MESSAGE THAT NAMES IT
 
-names-one : (m : Message) (k : Key) → Names m k → oneOf k m ≡ true
-unfolding oneOf
-names-one m k (inl e) = ap (λ (b : Bool). b || sameKey k (new m)) (key-yes k (old m) e)
-names-one m k (inr e) = ap (λ (b : Bool). sameKey k (old m) || b) (key-yes k (new m) e) ∙ or-true (sameKey k (old m))
-  where
-    or-true : (b : Bool) → (b || true) ≡ true
-    or-true true = refl
-    or-true false = refl
-
 isNear : Content → Bool
 isNear (own m) = false
 isNear (near m) = true
@@ -79,7 +69,7 @@ held-by X n c k e d =
       message = w .1;
       held = w .3;
       about = near-is m c (sym (w .5));
-      names = names-one m k (subst (λ (u : Message). Names u k) (ap messageOf (w .5) ∙ content-message m) d);
+      names = one-of m k (subst (λ (u : Message). Names u k) (ap messageOf (w .5) ∙ content-message m) d);
     }
 
 -- BOTH WAYS

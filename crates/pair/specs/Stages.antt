@@ -37,7 +37,7 @@ use Rattle.rules.specs.Replies.{Reply, refused, done}
 use Rattle.rules.specs.Reads.{messageIn}
 use Rattle.rules.specs.Answers.{goodAnswer, answerTo, isOffering, isAcceptance, proper, isGood}
 use Rattle.rules.specs.Receiving.{referred, settledSent, settle, retires, retired, hearFirst, hearAgain, hearOld, hearMessage, hear, receiveBy, receive}
-use Rattle.rules.specs.Sending.{anyWaiting, countWaiting, tooOld, oneOf, sameSide, namesOne, sendAt, send, resend, fresh}
+use Rattle.rules.specs.Sending.{anyWaiting, countWaiting, tooOld, oneOf, namesOne, sendAt, send, resend, fresh}
 use Rattle.rules.specs.declared.Answer.{Answer}
 use Rattle.rules.specs.declared.Answer.the-variants.{Done}
 use Rattle.rules.specs.declared.Outcome.{Outcome}
@@ -45,7 +45,7 @@ use Rattle.rules.specs.Calls.{refusalIn, Comes, Called}
 use Rattle.head.specs.Sound.{Names}
 use Rattle.link.specs.SetUp.{Sized, Sizes}
 use Rattle.link.specs.Sends.{Sent}
-use Rattle.pair.specs.kinds.Tools.{true-false, and-yes}
+use Rattle.pair.specs.kinds.Tools.{true-false}
 use Rattle.pair.specs.kinds.Ends.{SoundEnd}
 use Rattle.pair.specs.keeping.Memory.{formed-of, end-back, fresh-sound}
 use Rattle.pair.specs.keeping.Calls as k
@@ -54,6 +54,7 @@ use Rattle.pair.specs.World as world
 use Rattle.pair.specs.Came.{came-done}
 use Rattle.pair.specs.Demand.{partners}
 use Rattle.pair.specs.Trees.{reading, isRead, recordIn, told, read-judged, verdict-read, message-told}
+use Rattle.scan.specs.Bools.{sameBool, and-yes}
 
 -- WHAT A SIDE HAS BEHIND IT
 pub record Past : Type 0 where
@@ -339,5 +340,5 @@ module _ (v m n : ℕ) (m₁ : 1 ≤ m) (m₂ : m ≤ 32) (n₁ : 1 ≤ n) (n₂
 -- what has to be seen through for the rules to be computed: `unfolding ruling` opens all of it. The rule that settles stays shut,
 -- since the text that waited is read by itself
 unfoldable pub ruling : Unit {0}
-unfolding reading latest digits isReady standingAt get set firstOf used empty isAnswer answers.after forgottenFrom rtaDeed deedBy orHeld new isFiled isCalm isOffered codeFits mayOn makes may withField becomesOn begins becomes other decision applying.after hyphened answerText memory.numbered goodAnswer answerTo isOffering isAcceptance proper isGood referred settledSent retires retired hearFirst hearAgain hearOld hearMessage hear anyWaiting countWaiting tooOld oneOf sameSide namesOne sendAt
+unfolding reading latest digits isReady standingAt get set firstOf used empty isAnswer answers.after forgottenFrom rtaDeed deedBy orHeld new isFiled isCalm isOffered codeFits mayOn makes may withField becomesOn begins becomes other decision applying.after hyphened answerText memory.numbered goodAnswer answerTo isOffering isAcceptance proper isGood referred settledSent retires retired hearFirst hearAgain hearOld hearMessage hear anyWaiting countWaiting tooOld oneOf sameBool namesOne sendAt
 ruling = tt

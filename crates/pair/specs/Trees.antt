@@ -23,7 +23,8 @@ use Rattle.reader.specs.Reader.{verdict, verdict-only}
 use Rattle.places.specs.Bytes.{same, same-is}
 use Rattle.deeds.specs.Message.{Message, messageOf}
 use Rattle.rules.specs.Reads.{messageIn, read-message}
-use Rattle.pair.specs.kinds.Tools.{true-false, and-yes}
+use Rattle.pair.specs.kinds.Tools.{true-false}
+use Rattle.scan.specs.Bools.{and-yes}
 
 -- THE TREE OF A DERIVATION: the texts of its leaves, and which alternative was taken
 abbrev pub Tree : G → Type 0

@@ -13,13 +13,14 @@ use Rattle.scan.specs.Grammar.{placeOf, sizeOf, Span}
 use Rattle.changes.specs.declared.Plan.{Plan}
 use Rattle.types.specs.declared.Estimate.{Estimate}
 use Rattle.types.specs.declared.Parts.{Parts}
-use Rattle.splice.specs.Splice.{Spliced}
+use Rattle.splice.specs.Splice.{Spliced, total}
 use Rattle.splice.specs.Splicing.{front, kept-length}
 use Rattle.message.specs.declared.Kind.{Kind}
 use Rattle.message.specs.declared.Kind.the-variants.{None, Fpl, Cpl, Est, Chg, Cnl, Rti, Rta, Rla, Lam, Lrm}
-use Rattle.reader.specs.Reading.{cut}
+use Rattle.reader.specs.Reading.{cut, cut-none}
 use Rattle.pen.specs.declared.Pen.{Pen}
 use Rattle.pen.specs.Listed.{Inside}
+use Rattle.changes.specs.Found.{planSpans}
 
 -- the blocks one after the other
 abbrev pub join : List (List ℕ) → List ℕ
@@ -38,10 +39,6 @@ some (k ∷ ks) = ltb 0 k || some ks
 -- a block that stands only where one of these parts is there
 abbrev pub given : List ℕ → List ℕ → List ℕ
 given ks x = cond (not (some ks)) [] x
-
-abbrev pub total : List ℕ → ℕ
-total [] = 0
-total (k ∷ ks) = k + total ks
 
 some-total : (ks : List ℕ) → some ks ≡ ltb 0 (total ks)
 some-total [] = refl
@@ -66,6 +63,15 @@ pub record Stands (t : List ℕ) (p : Pen) (w : List ℕ) : Type 0 where
 abbrev pub AllInside : List ℕ → List Span → Type 0
 AllInside d [] = Unit
 AllInside d (q ∷ qs) = Inside d q × AllInside d qs
+
+-- the parts of these names
+abbrev pub spansAt : (ℕ → Span) → List ℕ → List Span
+spansAt f [] = []
+spansAt f (k ∷ ks) = f k ∷ spansAt f ks
+
+pub all-inside : (w : List ℕ) (f : ℕ → Span) → ((k : ℕ) → Inside w (f k)) → (ks : List ℕ) → AllInside w (spansAt f ks)
+all-inside w f h [] = tt
+all-inside w f h (k ∷ ks) = (h k, all-inside w f h ks)
 
 -- the blocks xs, with the parts qs in them, were laid out: where all is well they stand behind what stood there, and where
 -- all parts lie within d it is well as long as there is room
@@ -198,10 +204,6 @@ skipped d t p qs y e = nothing d t p (given (lens qs) y ∷ []) qs (ap (λ (z : 
 pub stands : {d t e : List ℕ} {p r : Pen} {xs : List (List ℕ)} {qs : List Span} (y : List ℕ) → 0 < total (lens qs) → join xs ≡ y → Adds d t p xs qs e r → Adds d t p (given (lens qs) y ∷ []) qs e r
 stands {qs = qs} y h e a = alike (e ∙ sym (append-nil y) ∙ ap (λ (z : List ℕ). z ++ []) (sym (is-given (lens qs) y h))) a
 
--- an absent part has no bytes
-no-bytes : (d : List ℕ) (q : Span) → sizeOf q ≡ 0 → cut d q ≡ []
-no-bytes d q e = ap (λ (k : ℕ). take k (drop (placeOf q) d)) e
-
 pub given-parts : (d : List ℕ) (qs : List Span) (x : List ℕ) → (total (lens qs) ≡ 0 → x ≡ []) → given (lens qs) x ≡ x
 given-parts d qs x h = ⊎-elim (λ e. is-given (lens qs) x (ltb-true 0 (total (lens qs)) e)) (λ e. let z : total (lens qs) ≡ 0 = omega (arith, ltb-false 0 (total (lens qs)) e) in none-given (lens qs) x z ∙ sym (h z)) (known (ltb 0 (total (lens qs))))
 
@@ -253,7 +255,7 @@ abbrev pub text18 : List ℕ → List ℕ → Span → Span → List ℕ
 text18 lead d a b = given (sizeOf a ∷ sizeOf b ∷ []) (lead ++ cond (not (some (sizeOf b ∷ sizeOf b ∷ []))) (cut d a) (cut d a ++ (47 ∷ cut d b)))
 
 pub own-part : (d : List ℕ) (a : Span) → ledBy [] d a ≡ cut d a
-own-part d a = given-parts d (a ∷ []) (cut d a) (λ e. no-bytes d a (omega arith))
+own-part d a = given-parts d (a ∷ []) (cut d a) (λ e. cut-none d a (omega arith))
 
 pub pair-both : {t e : List ℕ} {p r : Pen} (lead d : List ℕ) (a b : Span) → Adds d t p (textPair lead d a b ∷ []) (a ∷ b ∷ []) e r → Adds d t p (textBoth lead d a b ∷ []) (a ∷ b ∷ []) e r
 pair-both lead d a b x = alike (ap (λ (z : List ℕ). given (sizeOf a ∷ sizeOf b ∷ []) (lead ++ (cut d a ++ z)) ++ []) (own-part d b)) x
@@ -266,7 +268,7 @@ form-18 d a b = go (known (ltb 0 (sizeOf b)))
     go (inr e) = rw e (append-nil (cut d a))
 
 pub two-parts : (d : List ℕ) (a b : Span) → given (sizeOf a ∷ sizeOf b ∷ []) (cut d a ++ cut d b) ≡ cut d a ++ cut d b
-two-parts d a b = given-parts d (a ∷ b ∷ []) (cut d a ++ cut d b) (λ e. λ i. no-bytes d a (let z : sizeOf a ≡ 0 = omega arith in z) i ++ no-bytes d b (let z : sizeOf b ≡ 0 = omega arith in z) i)
+two-parts d a b = given-parts d (a ∷ b ∷ []) (cut d a ++ cut d b) (λ e. λ i. cut-none d a (let z : sizeOf a ≡ 0 = omega arith in z) i ++ cut-none d b (let z : sizeOf b ≡ 0 = omega arith in z) i)
 
 -- THE BLOCKS OF A TEXT AND THE PARTS IN THEM
 
@@ -302,11 +304,6 @@ changeBlocks d p =
     ∷ text18 (45 ∷ 49 ∷ 56 ∷ 47 ∷ []) d (p .indicator) (p .other)
     ∷ []
 
-abbrev pub changeSpans : Plan → List Span
-changeSpans p =
-    p .aircraft ∷ p .code ∷ p .rules ∷ p .flight ∷ p .count ∷ p .model ∷ p .wake ∷ p .equipment ∷ p .surveillance
-    ∷ p .departure ∷ p .time ∷ p .speed ∷ p .level ∷ p .route ∷ p .destination ∷ p .elapsed ∷ p .alternate ∷ p .alternate2 ∷ p .indicator ∷ p .other ∷ []
-
 -- what follows the number
 abbrev pub restBlocks : List ℕ → Parts → List (List ℕ)
 restBlocks d p =
@@ -318,7 +315,7 @@ restBlocks d p =
 abbrev pub restSpans : Parts → List Span
 restSpans p =
     p .reference .sender ∷ p .reference .receiver ∷ p .reference .digits
-    ∷ (ownSpans (p .own) (p .estimate) ++ (changeSpans (p .changes) ++ (p .sector ∷ p .track ∷ p .reason ∷ [])))
+    ∷ (ownSpans (p .own) (p .estimate) ++ (planSpans (p .changes) ++ (p .sector ∷ p .track ∷ p .reason ∷ [])))
 
 abbrev pub blocks : List ℕ → List ℕ → Parts → List (List ℕ)
 blocks opening d p =

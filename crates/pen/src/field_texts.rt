@@ -2,7 +2,8 @@
 ghost use mathlib.Core.List.{[], _∷_};
 ghost use mathlib.Core.Path.{_≡_};
 ghost use Rattle.scan.specs.Grammar.{sizeOf};
-ghost use Rattle.pen.specs.Laying.{Adds, total, textReference, text07, textPair, text09, text10, text14, text15, textAlternates, text16, text18};
+ghost use Rattle.pen.specs.Laying.{Adds, textReference, text07, textPair, text09, text10, text14, text15, textAlternates, text16, text18};
+ghost use Rattle.splice.specs.Splice.{total};
 use crate::Pen;
 use scan::Span;
 

@@ -16,7 +16,7 @@ use Rattle.flights.specs.Flight as f
 use Rattle.flights.specs.Flight.{Status, filed, active, Handoff, offered, accepted, Flight, widths, textsOf, recordOf, freeRecord, Offered, Sound, WellFormed}
 use Rattle.flights.specs.Records.{texts-neat}
 use Rattle.flights.specs.Rows.{AllFit, neat-fit}
-use Rattle.flights.specs.Table.{places, place, free}
+use Rattle.flights.specs.Table.{places, place}
 use Rattle.flights.specs.Formed.{TableFormed}
 use Rattle.flights.specs.Decoded.{readFlight, flightForm, flightsIn, tableOf, record-long, read-record, table-back, flights-many}
 use Rattle.flights.specs.Made.{Made, made-here}
@@ -26,6 +26,7 @@ use Rattle.deeds.specs.Message.{Message}
 use Rattle.deeds.specs.Deeds.{deedOf, makes, made, amended, estimated, handedOff, becomesOn, begins, becomes}
 use Rattle.deeds.specs.Applying.{doneAt}
 use Rattle.perform.specs.Changing.{Changes}
+use Rattle.places.specs.Bytes.{free}
 
 -- the bytes of a place: free, or the record of a flight that fits and that is read off it again
 abbrev pub Held : List ℕ → Type 0

@@ -10,7 +10,7 @@ use Rattle.places.specs.declared.Place.the-variants.{At, Nowhere}
 use Rattle.places.specs.Places.{isFree, found-below, found-has}
 use Rattle.places.specs.Stored.{get-places}
 use Rattle.flights.specs.Flight.{Flight, flightOf}
-use Rattle.flights.specs.Table.{places, place, free}
+use Rattle.flights.specs.Table.{places, place}
 use Rattle.flights.specs.Formed.{TableFormed}
 use Rattle.flights.specs.Decoded.{readFlight, flightForm, flightsIn, tableOf, table-back, flights-many}
 use Rattle.deeds.specs.declared.Deed.{Deed}
@@ -22,16 +22,17 @@ use Rattle.deeds.specs.Deeds.{old, deedOf, mayOn, makes, may, becomes}
 use Rattle.deeds.specs.Applying.{whereIs, lowestFree, heldAt, other, orFree, decidedAt, decision, after, applied}
 use Rattle.deeds.specs.Deciding.{found-in, found-flight}
 use Rattle.perform.specs.Performed.{Written, done-flights}
+use Rattle.places.specs.Bytes.{free}
 
 pub record Ready (d : Deed) (i : ℕ) (t : List ℕ) : Type 0 where
   pub within : i < places t
   pub free-or-not : makes d ≡ free (place i t)
 
-done-by : (b : Bool) (c : Decision) (i : ℕ) → cond b c Fails ≡ Done i → (b ≡ true) × (c ≡ Done i)
+pub done-by : (b : Bool) (c : Decision) (i : ℕ) → cond b c Fails ≡ Done i → (b ≡ true) × (c ≡ Done i)
 done-by true c i e = (refl, e)
 done-by false c i e = let z : _≡_ {A = ℕ} 0 1 = cc in absurd (omega arith)
 
-done-at : (p : Place) (i : ℕ) → decidedAt p ≡ Done i → p ≡ At i
+pub done-at : (p : Place) (i : ℕ) → decidedAt p ≡ Done i → p ≡ At i
 done-at (At j) i e = let z : j ≡ i = cc in ap At z
 done-at Nowhere i e = let z : _≡_ {A = ℕ} 0 1 = cc in absurd (omega arith)
 
@@ -48,7 +49,7 @@ makes-none Retracts m x y e = refl
 makes-none Accepts m x y e = refl
 makes-none Nothing m x y e = refl
 
-read-used : (b : Bool) (x y : Flight) → cond b none (some x) ≡ some y → b ≡ false
+pub read-used : (b : Bool) (x y : Flight) → cond b none (some x) ≡ some y → b ≡ false
 read-used true x y e = let z : _≡_ {A = ℕ} 0 1 = cc in absurd (omega arith)
 read-used false x y e = refl
 

@@ -5,7 +5,7 @@ ghost use Rattle.reader.specs.Reading.{Judged};
 ghost use Rattle.message.specs.declared.Verdict.the-variants.{Read};
 ghost use Rattle.excerpt.specs.Excerpt.{field14Of, Fits14};
 ghost use Rattle.flights.specs.Flight.{offered};
-ghost use Rattle.flights.specs.Table.{places, place, free as isFree};
+ghost use Rattle.flights.specs.Table.{places, place};
 ghost use Rattle.flights.specs.Decoded.{readFlight, flightsIn, tableOf};
 ghost use Rattle.deeds.specs.Message.{messageOf};
 ghost use Rattle.deeds.specs.Deeds.{makes, estimated, handedOff, becomes};
@@ -13,6 +13,7 @@ ghost use Rattle.perform.specs.Changing.{Changes};
 ghost use Rattle.perform.specs.Performed.{Held, Written};
 ghost use Rattle.flights.specs.Formed.{TableFormed};
 ghost use Rattle.deeds.specs.Applying.{decision, applied};
+ghost use Rattle.places.specs.Bytes.{free as isFree};
 
 mod amending;
 mod filing;

@@ -8,8 +8,8 @@ use native.Mathlib.Numerals.{add-one}
 use lib.ListN.{length, drop, getD, replicate}
 use lib.Seq.{drop-cons, drop-length}
 use lib.Dec.{eqb, leb}
-use borrow.Author.Tests.{eqb-true, eq-eqb, leb-true, le-leb}
-use Rattle.scan.specs.Bools.{and-l, and-r, both, Decides, equals}
+use borrow.Author.Tests.{eqb-true, eq-eqb}
+use Rattle.scan.specs.Bools.{and-l, and-r, both, Decides, equals, at-most}
 
 -- every byte is v
 unfoldable pub each : ℕ → List ℕ → Bool
@@ -122,11 +122,20 @@ wordAt at b = getD b at 0 + getD b (at + 1) 0 * 256 + getD b (at + 2) 0 * 65536 
 
 -- TESTS OF NUMBERS
 
-pub at-most : (m n : ℕ) → Decides (leb m n) (m ≤ n)
-at-most m n = record { yes = leb-true m n; no = le-leb m n }
-
 pub equals-on : (k : ℕ) {m n : ℕ} → m ≡ n → Decides (eqb m k) (n ≡ k)
 equals-on k {m} e = subst (λ (x : ℕ). Decides (eqb m k) (x ≡ k)) e (equals m k)
 
 pub at-most-on : (k : ℕ) {m n : ℕ} → m ≡ n → Decides (leb m k) (n ≤ k)
 at-most-on k {m} e = subst (λ (x : ℕ). Decides (leb m k) (x ≤ k)) e (at-most m k)
+
+-- A PLACE IS FREE where its first byte is 0
+
+abbrev pub free : List ℕ → Bool
+free b = eqb (getD b 0 0) 0
+
+-- and then nothing is said of it and another one
+pub free-apart : {K : Type 0} (a b : List ℕ) → free a ≡ true → Decides true (free a ≡ false → free b ≡ false → K → ⊥)
+free-apart a b e = record { yes = λ q u v k. false≢true (sym u ∙ e); no = λ p. refl }
+
+pub other-free-apart : {K : Type 0} (a b : List ℕ) → free b ≡ true → Decides true (free a ≡ false → free b ≡ false → K → ⊥)
+other-free-apart a b e = record { yes = λ q u v k. false≢true (sym v ∙ e); no = λ p. refl }

@@ -14,7 +14,7 @@ use Rattle.scan.specs.declared.Scan.{Scan}
 use Rattle.scan.specs.Grammar.{placeOf, sizeOf, Span, Derives, Reads, Refusal, none, look}
 use Rattle.scan.specs.Scanner.{from, scanAt, spot}
 use Rattle.scan.specs.Tests.{longest}
-use Rattle.scan.specs.Theory.{place, accepts-of}
+use Rattle.scan.specs.Theory.{place, accepts-of, passed}
 use Rattle.scan.specs.Parts.{reads-derives, one-reading, found, part-within}
 use Rattle.scan.specs.Bounds.{spot-same, refusal-one, refused, short-whole, short-refusal}
 use Rattle.message.specs.declared.Verdict.{Verdict}
@@ -30,9 +30,6 @@ use Rattle.types.specs.Scanned.{scannedBy}
 use Rattle.reader.specs.Reading.{hyphens, Judged, answerOf, Answers, cut, route, other, Words}
 
 -- A scan that is whole and reaches the end
-
-abbrev pub passed : List ℕ → Scan → Bool
-passed s r = r .ok && eqb (r .next) (length s)
 
 whole : (s : List ℕ) → passed s (scanAt message s 0) ≡ true → Judged s Read (recordBy s (λ k. spot k message s (from 0)))
 whole s e =

@@ -1,6 +1,6 @@
 -- WHAT A READER ANSWERS, by document 01: a text is read exactly when the rules derive it, and the record is the one
 -- that they give; else the refusal names the first place past which no continuation helps.
-use mathlib.Core.Path.{_≡_}
+use mathlib.Core.Path.{_≡_, ap}
 use mathlib.Core.Logic.{_⊎_}
 use mathlib.Core.Bool.{cond}
 use mathlib.Core.List.{List, [], _∷_}
@@ -44,6 +44,10 @@ Answers s a =
 -- the bytes of a part
 abbrev pub cut : List ℕ → Span → List ℕ
 cut s p = take (sizeOf p) (drop (placeOf p) s)
+
+-- an absent part has no bytes
+pub cut-none : (s : List ℕ) (p : Span) → sizeOf p ≡ 0 → cut s p ≡ []
+cut-none s p e = ap (λ (k : ℕ). take k (drop (placeOf p) s)) e
 
 -- where the words of field 15 and those of field 18 stand; in a CHG, within field 22
 abbrev pub route : Record → Span

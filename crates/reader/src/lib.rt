@@ -146,7 +146,7 @@ pub fn other_in(r: Record) -> Span
 }
 
 // The bytes of a part.
-fn part_of(s: &[u8], p: Span) -> &[u8]
+pub fn part_of(s: &[u8], p: Span) -> &[u8]
     requires { ⌜ placeOf p + sizeOf p ≤ length (now s) ⌝ }
     ensures { λ r. ⌜ now r ≡ cut (now (s .entry)) p ⌝ }
 {

@@ -17,9 +17,8 @@ use Rattle.message.specs.declared.Record.{Record}
 use Rattle.message.specs.declared.Verdict.the-variants.{Read}
 use Rattle.reader.specs.Reading.{cut, Judged}
 use Rattle.pen.specs.Listed.{spanOf}
-use Rattle.pen.specs.Laying.{join, AllInside, ledBy, textNumber, opening, none-given, is-given}
+use Rattle.pen.specs.Laying.{join, AllInside, ledBy, textNumber, opening, none-given, is-given, all-inside}
 use Rattle.compose.specs.Recorded.{its-inside, cut-size}
-use Rattle.excerpt.specs.Fitting.{all-inside}
 use Rattle.excerpt.specs.Sizes.{number-said, sector-short}
 use Rattle.deeds.specs.Message.{Message, messageOf}
 use Rattle.response.specs.Answering.{numberText, numbers, hyphened, answerText}

@@ -21,7 +21,7 @@ use Rattle.deeds.specs.declared.Decision.{Decision}
 use Rattle.deeds.specs.declared.Decision.the-variants.{Fails, Done}
 use Rattle.deeds.specs.Message.{Message}
 use Rattle.deeds.specs.Deeds.{Key, sameKey, old, deedOf, isOffered, isOffer, makes, mayOn, may, handedOff, becomesOn, becomes}
-use Rattle.deeds.specs.Applying.{whereIs, heldAt, flightUnder, other, orFree, home, decidedAt, decision, doneAt, after, applied}
+use Rattle.deeds.specs.Applying.{whereIs, heldAt, flightUnder, other, orFree, home, decidedAt, decision, doneAt, after, applied, asked}
 use Rattle.rules.specs.Answers.{isOffering, isAcceptance, isGood}
 use Rattle.rules.specs.Receiving.{settledSent, retires}
 use Rattle.rules.specs.Laws.{offers, accepts}
@@ -86,15 +86,14 @@ pub crossing : (q m : Message) (l : Places Flight) (i : ℕ) → isOffering (dee
 unfolding becomes becomesOn isOffered
 crossing q m l i a s b n h =
     let k : Key = old q in
-    let asked : Option Flight → Bool = keyed (k .aircraft) (k .departure) (k .destination) in
     let f : deedOf q ≡ Offers = offers (deedOf q) a in
     let w : whereIs k l ≡ At i = offer-place q l i f h in
-    let u = keyed-some (k .aircraft) (k .departure) (k .destination) (get i l) (found-has asked i l w) in
+    let u = keyed-some (k .aircraft) (k .departure) (k .destination) (get i l) (found-has (asked k) i l w) in
     let y : Flight = handedOff offered (q .number) (u .0) in
     let d : becomes (deedOf q) q (get i l) ≡ some y = λ j. becomes (f j) q (u .1 j) in
-    let kept : asked (becomes (deedOf q) q (get i l)) ≡ asked (get i l) = ap asked d ∙ ap asked (sym (u .1)) in
-    let t : whereIs (old m) (doneAt i q l) ≡ At i = ap (λ (x : Key). whereIs x (doneAt i q l)) (sym (same-key k (old m) s)) ∙ first-set asked i 0 (becomes (deedOf q) q (get i l)) l kept ∙ w in
-    let v : i < length l = omega (arith, found-below asked 0 i l w) in
+    let kept : (asked k) (becomes (deedOf q) q (get i l)) ≡ (asked k) (get i l) = ap (asked k) d ∙ ap (asked k) (sym (u .1)) in
+    let t : whereIs (old m) (doneAt i q l) ≡ At i = ap (λ (x : Key). whereIs x (doneAt i q l)) (sym (same-key k (old m) s)) ∙ first-set (asked k) i 0 (becomes (deedOf q) q (get i l)) l kept ∙ w in
+    let v : i < length l = omega (arith, found-below (asked k) 0 i l w) in
     accept-done m (doneAt i q l) i y (accepts (deedOf m) b) t (get-set i (becomes (deedOf q) q (get i l)) l v ∙ d) (eq-eqb (m .reference) (q .number) n)
 
 -- the same of the table to which the offer was applied

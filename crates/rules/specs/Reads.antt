@@ -12,8 +12,9 @@ use Rattle.message.specs.declared.Record.{Record}
 use Rattle.message.specs.declared.Verdict.the-variants.{Read}
 use Rattle.message.specs.Record.{recordBy, blank}
 use Rattle.reader.specs.Reading.{hyphens, Judged}
-use Rattle.reader.specs.Reader.{passed, read-judged, refused-judged, derived-read, one-record}
+use Rattle.reader.specs.Reader.{read-judged, refused-judged, derived-read, one-record}
 use Rattle.deeds.specs.Message.{Message, messageOf}
+use Rattle.scan.specs.Theory.{passed}
 
 -- as the scan finds it; that it is the record which document 01 gives is the law below
 unfoldable pub readRecord : List ℕ → Record

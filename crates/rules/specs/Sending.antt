@@ -1,6 +1,6 @@
 -- SENDING, RESENDING AND SETTING UP, by document 01's "Rules of an end". Sending checks 12, 13, 8, 9, 7, 10, 11, 2; resending
 -- 12, 5, 2; set-up 12 for sizes only, then 14. 12 stands in Memory, 13 in Drafts.
-use mathlib.Core.Bool.{Bool, true, false, cond, not, _&&_, _||_}
+use mathlib.Core.Bool.{Bool, false, cond, not, _&&_, _||_}
 use mathlib.Core.Option.{Option, none, some}
 use mathlib.Core.List.{List, [], _∷_}
 use Prim.Native.Nat.{ℕ, suc, _+_, _-_, _%_}
@@ -19,6 +19,7 @@ use Rattle.rules.specs.Replies.{Reply, refused, number}
 use Rattle.rules.specs.Reads.{messageIn}
 use Rattle.rules.specs.Answers.{isAcceptance}
 use Rattle.rules.specs.Receiving.{waitingAt, giving}
+use Rattle.scan.specs.Bools.{sameBool}
 
 -- what holds of some unanswered message
 unfoldable pub anyWaiting : (Waiting → Bool) → Places Waiting → Bool
@@ -40,12 +41,8 @@ tooOld next q = let d : ℕ = (next + 1000 - q .number) % 1000 in eqb d 0 || leb
 unfoldable pub oneOf : Key → Message → Bool
 oneOf k m = sameKey k (old m) || sameKey k (new m)
 
-unfoldable pub sameSide : Bool → Bool → Bool
-sameSide true b = b
-sameSide false b = not b
-
 unfoldable pub namesOne : Message → Message → Bool
-namesOne m q = sameSide (isAcceptance (deedOf m)) (isAcceptance (deedOf q)) && (oneOf (old m) q || oneOf (new m) q)
+namesOne m q = sameBool (isAcceptance (deedOf m)) (isAcceptance (deedOf q)) && (oneOf (old m) q || oneOf (new m) q)
 
 abbrev pub naming : Message → Waiting → Bool
 naming m q = namesOne m (messageIn (q .text))

@@ -9,9 +9,10 @@ ghost use Rattle.deeds.specs.Message.{messageOf};
 ghost use Rattle.deeds.specs.Deeds.{old, sameKey};
 ghost use Rattle.rules.specs.Answers.{isOffering, isAcceptance, proper as properOf, isGood, goodAnswer, answerTo};
 ghost use Rattle.rules.specs.Receiving.{units, referred as referredOf, directed as directedOf, retires as retiresOf};
-ghost use Rattle.rules.specs.Sending.{oneOf, sameSide, namesOne};
+ghost use Rattle.rules.specs.Sending.{oneOf, namesOne};
 ghost use Rattle.rules.specs.Keys.{orPart, oldParts, changedParts, newParts, keyOf, KeyInside};
 ghost use Rattle.rules.specs.Calls.{Gives};
+ghost use Rattle.scan.specs.Bools.{sameBool};
 use deeds::Decision;
 use deeds::Deed;
 use head::Head;
@@ -271,7 +272,7 @@ pub fn retires<'a>(w: &'a [u8], r: Record, x: &'a [u8], q: Record) -> bool
 
 // Whether two messages are about flights of one side.
 fn same_side(a: bool, b: bool) -> bool
-    ensures { λ r. ⌜ r ≡ sameSide a b ⌝ }
+    ensures { λ r. ⌜ r ≡ sameBool a b ⌝ }
 {
     if a {
         return b;

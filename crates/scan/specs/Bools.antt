@@ -1,10 +1,10 @@
 -- Laws of Bool that every crate's proofs use, and what it is that a test decides.
 use mathlib.Core.Path.{_≡_, refl, sym, _∙_}
 use mathlib.Core.Logic.{_⊎_, inl, inr, ⊎-elim}
-use mathlib.Core.Bool.{Bool, true, false, _&&_, _||_, false≢true}
-use Prim.Native.Nat.{ℕ}
-use lib.Dec.{eqb}
-use borrow.Author.Tests.{eqb-true, eq-eqb}
+use mathlib.Core.Bool.{Bool, true, false, _&&_, _||_, false≢true, not}
+use Prim.Native.Nat.{ℕ, _≤_}
+use lib.Dec.{eqb, leb}
+use borrow.Author.Tests.{eqb-true, eq-eqb, leb-true, le-leb, not-true}
 
 pub and-l : (a b : Bool) → a && b ≡ true → a ≡ true
 and-l true b e = refl
@@ -13,6 +13,9 @@ and-l false b e = e
 pub and-r : (a b : Bool) → a && b ≡ true → b ≡ true
 and-r true b e = e
 and-r false b e = absurd (false≢true e)
+
+pub and-yes : (a b : Bool) → a && b ≡ true → (a ≡ true) × (b ≡ true)
+and-yes a b e = (and-l a b e, and-r a b e)
 
 pub both : (a b : Bool) → a ≡ true → b ≡ true → a && b ≡ true
 both a b p q = rw (p, q)
@@ -56,3 +59,16 @@ decides-by e x = record { yes = λ h. x .yes (sym e ∙ h); no = λ p. e ∙ x .
 
 pub equals : (m n : ℕ) → Decides (eqb m n) (m ≡ n)
 equals m n = record { yes = eqb-true m n; no = eq-eqb m n }
+
+pub at-most : (m n : ℕ) → Decides (leb m n) (m ≤ n)
+at-most m n = record { yes = leb-true m n; no = le-leb m n }
+
+-- both or neither
+unfoldable pub sameBool : Bool → Bool → Bool
+sameBool true b = b
+sameBool false b = not b
+
+pub same-bool : (a b : Bool) → sameBool a b ≡ true → a ≡ b
+unfolding sameBool
+same-bool true b e = sym e
+same-bool false b e = sym (not-true b e)

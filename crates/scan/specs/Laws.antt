@@ -255,3 +255,12 @@ module _ (w s : List ℕ) (i : ℕ) (q : Scan) where
 
 pub lit-again : (w s : List ℕ) (i : ℕ) (q q′ x : Scan) → i < length w → q′ ≡ scan (byte (getD w i 0)) s q → scan (lit (drop i w)) s q ≡ x → scan (lit (drop (i + 1) w)) s q′ ≡ x
 lit-again w s i q q′ x h e f = ap (scan (lit (drop (i + 1) w)) s) e ∙ sym (lit-step w s i q h) ∙ f
+
+-- a list of four is its four
+pub four : (a : List ℕ) → length a ≡ 4 → a ≡ getD a 0 0 ∷ getD a 1 0 ∷ getD a 2 0 ∷ getD a 3 0 ∷ []
+four [] e = absurd (omega (arith, e))
+four (x ∷ []) e = absurd (omega (arith, e))
+four (x ∷ y ∷ []) e = absurd (omega (arith, e))
+four (x ∷ y ∷ z ∷ []) e = absurd (omega (arith, e))
+four (x ∷ y ∷ z ∷ u ∷ []) e = refl
+four (x ∷ y ∷ z ∷ u ∷ v ∷ a) e = absurd (omega (arith, e))

@@ -240,7 +240,8 @@ split s i j k h l =
     let m : i + (j - i) ≡ j = omega arith in
     rw (n, take-add, drop-drop, m)
 
-whole : (r : Scan) → r .ok ≡ true → r ≡ from (r .next)
+-- a scan that is whole stands at its place
+pub whole : (r : Scan) → r .ok ≡ true → r ≡ from (r .next)
 whole r o = λ i. record { next = r .next; ok = o i }
 
 -- the longer of two is the one that leads

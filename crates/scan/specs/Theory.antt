@@ -9,11 +9,11 @@ use native.Mathlib.Numerals.{add-one}
 use lib.ListN.{length, getD, take, drop, replicate, take-append-drop, length-append, length-drop, length-replicate}
 use lib.Seq.{drop-cons, drop-drop, drop-append-seam, take-append-seam, length-take-le, take-length}
 use lib.Dec.{leb, ltb, eqb}
-use Rattle.scan.specs.Bools.{and-l, and-r, both, or-split, or-l, or-r, known}
+use Rattle.scan.specs.Bools.{and-l, and-r, both, or-split, or-l, or-r, known, Decides}
 use borrow.Author.Tests.{ltb-true, leb-true, le-leb, lt-ltb, le-ltb, eqb-true, eq-eqb}
 use Rattle.scan.specs.declared.Scan.{Scan}
 use Rattle.scan.specs.declared.Class.{Class}
-use Rattle.scan.specs.declared.Class.the-variants.{Word, Byte}
+use Rattle.scan.specs.declared.Class.the-variants.{Word, Byte, Letter}
 use Rattle.scan.specs.Grammar.{Ranges, has, ranges, isIn, all, text, G, eps, run, words, seq, alt, part, field, Derives, Viable}
 use Rattle.scan.specs.Scanner.{runAt, runScan, wordsAt, wordsScan, longer, scan, from, scanAt}
 use Rattle.scan.specs.Tests.{nullable, first, bytes, clear, apart, follow, some, good}
@@ -632,7 +632,11 @@ accepts g e s = (to (place g e s), of (place g e s))
         let n : scanAt g s 0 .next ≡ length s = omega (arith, ρ .within, ρ .longest (length s) (omega arith) ([], rw (take-length, append-nil) d)) in
         (ρ .whole .1 (rw (n, take-length) d), n)
 
-pub accepts-of : (g : G) → good g ≡ true → (s : List ℕ) (q : Scan) → q ≡ scanAt g s 0 → (q .ok && eqb (q .next) (length s) ≡ true) ↔ Derives g s
+-- a scan that is whole and went to the end
+abbrev pub passed : List ℕ → Scan → Bool
+passed s q = q .ok && eqb (q .next) (length s)
+
+pub accepts-of : (g : G) → good g ≡ true → (s : List ℕ) (q : Scan) → q ≡ scanAt g s 0 → (passed s q ≡ true) ↔ Derives g s
 accepts-of g e s q h = rw h (to, of)
   where
     n : ℕ
@@ -668,3 +672,15 @@ part-of g e s r q h o = go (known (r .ok))
 
 pub ok-before : (g : G) (s : List ℕ) (r q : Scan) → q ≡ scan g s r → q .ok ≡ true → r .ok ≡ true
 ok-before g s r q h o = ⊎-elim (λ y. y) (λ n. absurd (false≢true (sym n ∙ ap (λ (z : Scan). z .ok) (sym (h ∙ skip g s r n)) ∙ o))) (known (r .ok))
+
+-- decides whether the grammar derives the text
+pub told-by : (g : G) → good g ≡ true → (s : List ℕ) (q : Scan) (b : Bool) → q ≡ scanAt g s 0 → b ≡ passed s q → Decides b (Derives g s)
+told-by g e s q b h p = let a = accepts-of g e s q h in record { yes = λ y. a .0 (sym p ∙ y); no = λ d. p ∙ a .1 d }
+
+-- as for a name of four letters
+name-good : good (run Letter 4 4) ≡ true
+unfolding some good
+name-good = refl
+
+pub name-is : (t : List ℕ) (q : Scan) → q ≡ scanAt (run Letter 4 4) t 0 → Decides (passed t q) (Derives (run Letter 4 4) t)
+name-is t q h = told-by (run Letter 4 4) name-good t q _ h refl

@@ -2,11 +2,12 @@
 ghost use mathlib.Core.Path.{_≡_};
 ghost use mathlib.Core.Bool.{cond, false};
 ghost use Prim.Native.Nat.{_≤_, _<_};
-ghost use Rattle.scan.specs.Grammar.{isIn, all, none as noneOf, run as runG};
+ghost use Rattle.scan.specs.Grammar.{isIn, all, none as noneOf, run as runG, Derives};
 ghost use Rattle.scan.specs.declared.Class.the-variants.{Word};
 ghost use Rattle.scan.specs.Laws.{Whole};
 ghost use Rattle.scan.specs.Scanner.{runAt, scan, longer as longerOf, leads as leadsOf, between16};
 ghost use Rattle.scan.specs.Texts.{lit as litG, byte as byteG, one as oneG};
+ghost use Rattle.scan.specs.Bools.{Decides};
 
 // Where a scan stopped, and whether what it passed is whole.
 pub struct Scan {
@@ -161,6 +162,14 @@ pub fn letters(s: &[u8], r: Scan, k: usize) -> Scan
     ensures { λ q. ⌜ q ≡ scan (runG Class.Letter k k) (now (s .entry)) r ⌝ }
 {
     exactly(s, r, k, b'A', b'Z')
+}
+
+// Whether a text is a name of four letters, a unit's or a place's.
+pub fn is_name(t: &[u8]) -> bool
+    ensures { λ r. ⌜ Decides r (Derives (runG Class.Letter 4 4) (now (t .entry))) ⌝ }
+{
+    let q = letters(t, Scan { next: 0, ok: true }, 4);
+    q.ok & (q.next == t.len())
 }
 
 pub fn digits(s: &[u8], r: Scan, k: usize) -> Scan

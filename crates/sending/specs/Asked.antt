@@ -14,8 +14,8 @@ use Rattle.message.specs.declared.Verdict.the-variants.{Read}
 use Rattle.reader.specs.Reading.{Judged}
 use Rattle.places.specs.Places.{Places}
 use Rattle.places.specs.Forms.{placesFrom}
-use Rattle.places.specs.Bytes.{numberAt}
-use Rattle.unanswered.specs.Waiting.{Waiting, waitingOf, place, free, UnansweredFormed}
+use Rattle.places.specs.Bytes.{numberAt, free}
+use Rattle.unanswered.specs.Waiting.{Waiting, waitingOf, place, UnansweredFormed}
 use Rattle.unanswered.specs.Formed.{lent, first-at}
 use Rattle.memory.specs.End.{readWaiting, waitingForm, waitingIn}
 use Rattle.memory.specs.Held.{waiting-used}

@@ -6,7 +6,7 @@ use Prim.Native.Nat.{ℕ, _<_}
 use lib.ListN.{length}
 use Rattle.scan.specs.Bools.{Decides}
 use Rattle.unanswered.specs.declared.Shown.the-variants.{Empty, Message}
-use Rattle.unanswered.specs.Waiting.{waitingOf, place, free, FormedAt, ShowsAt, UnansweredFormed}
+use Rattle.unanswered.specs.Waiting.{waitingOf, place, FormedAt, ShowsAt, UnansweredFormed}
 use Rattle.unanswered.specs.Formed.{empty-at, unanswered-is}
 use Rattle.places.specs.Below.{Below}
 use Rattle.deeds.specs.Message as d
@@ -15,6 +15,7 @@ use Rattle.rules.specs.Sending.{anyWaiting, countWaiting, making, naming}
 use Rattle.sending.specs.declared.Seen.{Seen}
 use Rattle.sending.specs.declared.Surveyed.{Surveyed}
 use Rattle.sending.specs.Asked.{usedWith, free-has-none, used-has}
+use Rattle.places.specs.Bytes.{free}
 
 -- what is seen of place i, for the message m: nothing more of one that is not well formed
 pub record Sees (ours partners : List ℕ) (m : d.Message) (t : List ℕ) (i : ℕ) (x : Seen) : Type 0 where

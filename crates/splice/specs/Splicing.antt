@@ -1,11 +1,11 @@
 -- Laws of bytes that are written one behind the other.
 use mathlib.Core.Path.{_≡_, sym, ap, _∙_}
-use mathlib.Core.List.{List, _++_, append-assoc}
+use mathlib.Core.List.{List, _++_, append-assoc, append-nil}
 use Prim.Native.Nat.{ℕ, _+_, _≤_, _<_}
 use native.Mathlib.Nat.{add-assoc}
 use native.Mathlib.Numerals.{add-one}
 use native.Mathlib.Omega.{arith}
-use lib.ListN.{length, take, drop, getD, set, replicate, length-append, length-drop, length-replicate, getD-replicate}
+use lib.ListN.{length, take, drop, getD, set, replicate, length-append, length-drop, length-replicate, getD-replicate, drop-of-length-le}
 use lib.Seq.{take-length, paste, paste-suc, length-take-le, take-at, drop-at, drop-drop, drop-append-add}
 use Rattle.splice.specs.Splice.{splice, Spliced}
 
@@ -22,6 +22,14 @@ fill-more d at n v i h k =
 pub paste-all : (d : List ℕ) (at : ℕ) (s : List ℕ) (i : ℕ) → i ≡ length s → paste d at s i ≡ splice at s d
 unfolding splice
 paste-all d at s i e = rw (e, take-length)
+
+-- ---- what was written over all
+
+pub over-all : (s d e : List ℕ) (n : ℕ) → Spliced 0 s d e n → length d ≤ length s → e ≡ s
+unfolding splice
+over-all s d e n p h =
+    let y : length d ≤ 0 + length s = omega arith in
+    p .bytes ∙ ap (λ (x : List ℕ). s ++ x) (drop-of-length-le d y) ∙ append-nil s
 
 -- ---- one write behind another
 

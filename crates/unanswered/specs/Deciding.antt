@@ -17,9 +17,9 @@ use Rattle.message.specs.declared.Verdict.the-variants.{Read, Refused}
 use Rattle.message.specs.declared.Record.{Record}
 use Rattle.reader.specs.Reading.{Judged, cut}
 use Rattle.reader.specs.Reader.{judged-one, words-within}
-use Rattle.places.specs.Bytes.{high, low, numberAt, high-of, low-of, two-bytes, each, stretch-is}
+use Rattle.places.specs.Bytes.{high, low, numberAt, high-of, low-of, two-bytes, each, stretch-is, free}
 use Rattle.unanswered.specs.declared.Shown.the-variants.{Broken, Empty, Message}
-use Rattle.unanswered.specs.Waiting.{Waiting, waiting, waitingBytes, waitingOf, isAnswer, Proper, WellFormed, free, Shows}
+use Rattle.unanswered.specs.Waiting.{Waiting, waiting, waitingBytes, waitingOf, isAnswer, Proper, WellFormed, Shows}
 use Rattle.unanswered.specs.Encoded.{waiting-back, proper-short}
 
 -- THE TEXT

@@ -12,10 +12,10 @@ use lib.Dec.{eqb}
 use borrow.Author.Tests.{not-true}
 use Rattle.scan.specs.Bools.{known, Decides, decides-as, equals}
 use Rattle.places.specs.Below.{Below, one-more}
-use Rattle.places.specs.Bytes.{numberAt}
+use Rattle.places.specs.Bytes.{numberAt, free}
 use Rattle.unanswered.specs.declared.Shown.{Shown}
 use Rattle.unanswered.specs.declared.Shown.the-variants.{Broken, Empty, Message}
-use Rattle.unanswered.specs.Waiting.{waitingOf, Proper, place, free, Apart, FormedAt, Shows, ShowsAt, UnansweredFormed, hasNumber}
+use Rattle.unanswered.specs.Waiting.{waitingOf, Proper, place, Apart, FormedAt, Shows, ShowsAt, UnansweredFormed, hasNumber}
 use Rattle.unanswered.specs.Deciding.{message-is}
 
 -- the first byte of a place is the one where it starts
@@ -30,12 +30,6 @@ pub lent-long : (t : List ℕ) (i : ℕ) → length t ≡ 20480 → i < 16 → l
 lent-long t i n h = ap length (lent t i) ∙ length-take-le 1280 (drop (i * 1280) t) (omega (arith, length-drop (i * 1280) t))
 
 -- TWO PLACES
-
-pub free-apart : (a b : List ℕ) → free a ≡ true → Decides true (Apart a b)
-free-apart a b e = record { yes = λ q u v k. false≢true (sym u ∙ e); no = λ p. refl }
-
-pub other-free-apart : (a b : List ℕ) → free b ≡ true → Decides true (Apart a b)
-other-free-apart a b e = record { yes = λ q u v k. false≢true (sym v ∙ e); no = λ p. refl }
 
 pub used-apart : (a b : List ℕ) → free a ≡ false → free b ≡ false → (m n : ℕ) → m ≡ waitingOf a .number → n ≡ waitingOf b .number → Decides (not (eqb m n)) (Apart a b)
 used-apart a b u v m n p q =

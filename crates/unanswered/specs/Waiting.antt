@@ -4,7 +4,7 @@ use mathlib.Core.Logic.{_⊎_}
 use mathlib.Core.Bool.{Bool, true, false, not, _&&_}
 use mathlib.Core.List.{List, _∷_, _++_}
 use Prim.Native.Nat.{ℕ, _-_, _*_, _≤_, _<_}
-use lib.ListN.{length, getD, take, drop, replicate}
+use lib.ListN.{length, take, drop, replicate}
 use lib.Dec.{eqb}
 use Rattle.message.specs.declared.Kind.{Kind}
 use Rattle.message.specs.declared.Kind.the-variants.{None, Fpl, Cpl, Est, Chg, Cnl, Rti, Rta, Rla, Lam, Lrm}
@@ -14,7 +14,7 @@ use Rattle.reader.specs.Reading.{Judged, cut}
 use Rattle.places.specs.declared.Place.{Place}
 use Rattle.places.specs.Below.{Below}
 use Rattle.places.specs.Search.{firstFrom}
-use Rattle.places.specs.Bytes.{high, low, numberAt}
+use Rattle.places.specs.Bytes.{high, low, numberAt, free}
 use Rattle.unanswered.specs.declared.Shown.{Shown}
 use Rattle.unanswered.specs.declared.Shown.the-variants.{Broken, Empty, Message}
 
@@ -72,10 +72,6 @@ WellFormed ours partners b = (b ≡ freeBytes) ⊎ ((m : Waiting) × (b ≡ wait
 
 abbrev pub place : ℕ → List ℕ → List ℕ
 place i t = take 1280 (drop (i * 1280) t)
-
--- a place is free where its first byte is 0
-abbrev pub free : List ℕ → Bool
-free b = eqb (getD b 0 0) 0
 
 -- not both used with one number
 abbrev pub Apart : List ℕ → List ℕ → Type 0

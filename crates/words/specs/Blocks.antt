@@ -10,11 +10,11 @@ use native.Mathlib.Numerals.{add-one}
 use lib.Dec.{leb, ltb, eqb}
 use lib.ListN.{length, getD, take, drop, drop-of-length-le}
 use lib.Seq.{drop-cons}
-use borrow.Author.Tests.{lt-ltb, leb-true, le-leb, lt-leb, eqb-true, eqb-false, not-true}
+use borrow.Author.Tests.{lt-ltb, leb-true, le-leb, lt-leb, eqb-true, eqb-false}
 use Rattle.scan.specs.declared.Class.the-variants.{Word, Byte}
 use Rattle.scan.specs.Grammar.{isIn}
 use Rattle.scan.specs.Scanner.{wordsAt}
-use Rattle.scan.specs.Bools.{and-l, and-r, both, known}
+use Rattle.scan.specs.Bools.{and-l, and-r, both, known, sameBool, same-bool}
 use Rattle.scan.specs.Laws.{words-on, words-gap}
 
 -- whether a byte may follow another
@@ -74,27 +74,18 @@ each-below f (suc n) e k h = go (eqb k n) refl (each-below f n (and-r (f n) (bel
     go true q r = ap f (eqb-true k n q) ∙ and-l (f n) (below f n) e
     go false q r = r (omega (arith, eqb-false k n q))
 
-unfoldable alike : Bool → Bool → Bool
-alike true b = b
-alike false b = not b
-
-alike-same : (a b : Bool) → alike a b ≡ true → a ≡ b
-unfolding alike
-alike-same true b e = sym e
-alike-same false b e = sym (not-true b e)
-
 -- bit k of the number, and whether k + 39 is a word byte
 abbrev pub wordBit : ℕ → Bool
 wordBit k = eqb (4503599578087345 / 2 ^ k % 2) 1
 
-bits-right : below (λ k. alike (wordBit k) (isIn Word (k + 39))) 52 ≡ true
-unfolding below alike
+bits-right : below (λ k. sameBool (wordBit k) (isIn Word (k + 39))) 52 ≡ true
+unfolding below sameBool
 bits-right = refl
 
 pub word-bit : (x : ℕ) → 39 ≤ x → x ≤ 90 → wordBit (x - 39) ≡ isIn Word x
 word-bit x h l =
     let n : x - 39 + 39 ≡ x = omega arith in
-    alike-same (wordBit (x - 39)) (isIn Word (x - 39 + 39)) (each-below (λ k. alike (wordBit k) (isIn Word (k + 39))) 52 bits-right (x - 39) (omega arith)) ∙ ap (isIn Word) n
+    same-bool (wordBit (x - 39)) (isIn Word (x - 39 + 39)) (each-below (λ k. sameBool (wordBit k) (isIn Word (k + 39))) 52 bits-right (x - 39) (omega arith)) ∙ ap (isIn Word) n
 
 pub word-low : (x : ℕ) → x < 39 → false ≡ isIn Word x
 word-low x h = rw (lt-leb 63 x (omega arith), lt-leb 39 x (omega arith), lt-leb 43 x (omega arith), lt-leb 46 x (omega arith), lt-leb 65 x (omega arith))

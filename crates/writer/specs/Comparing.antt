@@ -1,7 +1,7 @@
 -- How two records are held against each other.
 use mathlib.Core.Path.{_≡_, refl, sym, ap, _∙_, subst}
 use mathlib.Core.Logic.{_⊎_, ⊎-elim}
-use mathlib.Core.Bool.{Bool, true, false, cond, _&&_, false≢true}
+use mathlib.Core.Bool.{Bool, true, false, _&&_, false≢true}
 use mathlib.Core.List.{List, [], _∷_, _++_}
 use Prim.Native.Nat.{ℕ}
 use lib.Dec.{eqb}
@@ -11,11 +11,8 @@ use Rattle.scan.specs.Grammar.{sizeOf, Span, Part, look}
 use Rattle.scan.specs.Scanner.{among}
 use Rattle.types.specs.declared.Parts.{Parts}
 use Rattle.message.specs.declared.Kind.{Kind}
-use Rattle.message.specs.declared.Kind.the-variants.{None, Fpl, Cpl, Est, Chg, Cnl, Rti, Rta, Rla, Lam, Lrm}
 use Rattle.message.specs.declared.LevelKind.{LevelKind}
-use Rattle.message.specs.declared.LevelKind.the-variants.{Absent, FlightLevel, Altitude, MetricLevel, MetricAltitude, Vfr}
 use Rattle.message.specs.declared.PointForm.{PointForm}
-use Rattle.message.specs.declared.PointForm.the-variants.{NoPoint, Name, Bearing, Degrees, Minutes}
 use Rattle.message.specs.declared.Level.{Level}
 use Rattle.message.specs.declared.PlanFigures.{PlanFigures}
 use Rattle.message.specs.declared.Figures.{Figures}
@@ -27,125 +24,37 @@ use Rattle.pen.specs.Listed.{numberParts, planParts, restParts, partsIn}
 use Rattle.compose.specs.Composed.{sizes}
 use Rattle.compose.specs.Recorded.{partNames, listed, nameless}
 use Rattle.writer.specs.Writer.{Alike}
+use Rattle.message.specs.Numbered.{kindNumber, levelNumber, formNumber, numberedKind, numberedLevel, numberedForm, kind-back, level-back, form-back}
 
--- THE VARIANTS AS NUMBERS
+-- THE VARIANTS, by their numbers
 
-unfoldable pub kindCode : Kind → ℕ
-kindCode None = 0
-kindCode Fpl = 1
-kindCode Cpl = 2
-kindCode Est = 3
-kindCode Chg = 4
-kindCode Cnl = 5
-kindCode Rti = 6
-kindCode Rta = 7
-kindCode Rla = 8
-kindCode Lam = 9
-kindCode Lrm = 10
+kind-one : (a b : Kind) → Decides (eqb (kindNumber a) (kindNumber b)) (a ≡ b)
+kind-one a b = decides-as (λ e. sym (kind-back a) ∙ ap numberedKind e ∙ kind-back b) (ap kindNumber) (equals (kindNumber a) (kindNumber b))
 
-unfoldable pub levelCode : LevelKind → ℕ
-levelCode Absent = 0
-levelCode FlightLevel = 1
-levelCode Altitude = 2
-levelCode MetricLevel = 3
-levelCode MetricAltitude = 4
-levelCode Vfr = 5
+level-one : (a b : LevelKind) → Decides (eqb (levelNumber a) (levelNumber b)) (a ≡ b)
+level-one a b = decides-as (λ e. sym (level-back a) ∙ ap numberedLevel e ∙ level-back b) (ap levelNumber) (equals (levelNumber a) (levelNumber b))
 
-unfoldable pub formCode : PointForm → ℕ
-formCode NoPoint = 0
-formCode Name = 1
-formCode Bearing = 2
-formCode Degrees = 3
-formCode Minutes = 4
-
--- and back
-
-unfoldable kindAt : ℕ → Kind
-kindAt m =
-    cond (eqb m 0) None
-    (cond (eqb m 1) Fpl
-    (cond (eqb m 2) Cpl
-    (cond (eqb m 3) Est
-    (cond (eqb m 4) Chg
-    (cond (eqb m 5) Cnl
-    (cond (eqb m 6) Rti
-    (cond (eqb m 7) Rta
-    (cond (eqb m 8) Rla
-    (cond (eqb m 9) Lam Lrm)))))))))
-
-kindAt-is : (k : Kind) → kindAt (kindCode k) ≡ k
-unfolding kindAt kindCode
-kindAt-is None = refl
-kindAt-is Fpl = refl
-kindAt-is Cpl = refl
-kindAt-is Est = refl
-kindAt-is Chg = refl
-kindAt-is Cnl = refl
-kindAt-is Rti = refl
-kindAt-is Rta = refl
-kindAt-is Rla = refl
-kindAt-is Lam = refl
-kindAt-is Lrm = refl
-
-kindCode-one : (a b : Kind) → Decides (eqb (kindCode a) (kindCode b)) (a ≡ b)
-kindCode-one a b = decides-as (λ e. sym (kindAt-is a) ∙ ap kindAt e ∙ kindAt-is b) (ap kindCode) (equals (kindCode a) (kindCode b))
-
-unfoldable levelAt : ℕ → LevelKind
-levelAt m =
-    cond (eqb m 0) Absent
-    (cond (eqb m 1) FlightLevel
-    (cond (eqb m 2) Altitude
-    (cond (eqb m 3) MetricLevel
-    (cond (eqb m 4) MetricAltitude Vfr))))
-
-levelAt-is : (k : LevelKind) → levelAt (levelCode k) ≡ k
-unfolding levelAt levelCode
-levelAt-is Absent = refl
-levelAt-is FlightLevel = refl
-levelAt-is Altitude = refl
-levelAt-is MetricLevel = refl
-levelAt-is MetricAltitude = refl
-levelAt-is Vfr = refl
-
-levelCode-one : (a b : LevelKind) → Decides (eqb (levelCode a) (levelCode b)) (a ≡ b)
-levelCode-one a b = decides-as (λ e. sym (levelAt-is a) ∙ ap levelAt e ∙ levelAt-is b) (ap levelCode) (equals (levelCode a) (levelCode b))
-
-unfoldable formAt : ℕ → PointForm
-formAt m =
-    cond (eqb m 0) NoPoint
-    (cond (eqb m 1) Name
-    (cond (eqb m 2) Bearing
-    (cond (eqb m 3) Degrees Minutes)))
-
-formAt-is : (k : PointForm) → formAt (formCode k) ≡ k
-unfolding formAt formCode
-formAt-is NoPoint = refl
-formAt-is Name = refl
-formAt-is Bearing = refl
-formAt-is Degrees = refl
-formAt-is Minutes = refl
-
-formCode-one : (a b : PointForm) → Decides (eqb (formCode a) (formCode b)) (a ≡ b)
-formCode-one a b = decides-as (λ e. sym (formAt-is a) ∙ ap formAt e ∙ formAt-is b) (ap formCode) (equals (formCode a) (formCode b))
+form-one : (a b : PointForm) → Decides (eqb (formNumber a) (formNumber b)) (a ≡ b)
+form-one a b = decides-as (λ e. sym (form-back a) ∙ ap numberedForm e ∙ form-back b) (ap formNumber) (equals (formNumber a) (formNumber b))
 
 -- LEVELS AND FIGURES
 
-pub level-same : (a b : Level) → Decides (eqb (levelCode (a .kind)) (levelCode (b .kind)) && eqb (a .figure) (b .figure)) (a ≡ b)
+pub level-same : (a b : Level) → Decides (eqb (levelNumber (a .kind)) (levelNumber (b .kind)) && eqb (a .figure) (b .figure)) (a ≡ b)
 level-same a b =
     decides-as (λ p. λ i. record { kind = p .0 i; figure = p .1 i }) (λ e. (ap (λ (x : Level). x .kind) e, ap (λ (x : Level). x .figure) e))
-    (decides-and (levelCode-one (a .kind) (b .kind)) (equals (a .figure) (b .figure)))
+    (decides-and (level-one (a .kind) (b .kind)) (equals (a .figure) (b .figure)))
 
 pub plan-figures-same : (a b : PlanFigures) (l : Bool) → Decides l (a .level ≡ b .level) → Decides (eqb (a .count) (b .count) && l) (a ≡ b)
 plan-figures-same a b l h =
     decides-as (λ p. λ i. record { count = p .0 i; level = p .1 i }) (λ e. (ap (λ (x : PlanFigures). x .count) e, ap (λ (x : PlanFigures). x .level) e))
     (decides-and (equals (a .count) (b .count)) h)
 
-pub figures-same : (a b : Figures) (o f c s h : Bool) → Decides o (a .own ≡ b .own) → f ≡ eqb (formCode (a .form)) (formCode (b .form)) → Decides c (a .crossing ≡ b .crossing) → Decides s (a .second ≡ b .second) → Decides h (a .changes ≡ b .changes) → Decides (((((((eqb (a .number) (b .number) && eqb (a .reference) (b .reference)) && o) && f) && c) && s) && h) && eqb (a .reason) (b .reason)) (a ≡ b)
+pub figures-same : (a b : Figures) (o f c s h : Bool) → Decides o (a .own ≡ b .own) → f ≡ eqb (formNumber (a .form)) (formNumber (b .form)) → Decides c (a .crossing ≡ b .crossing) → Decides s (a .second ≡ b .second) → Decides h (a .changes ≡ b .changes) → Decides (((((((eqb (a .number) (b .number) && eqb (a .reference) (b .reference)) && o) && f) && c) && s) && h) && eqb (a .reason) (b .reason)) (a ≡ b)
 figures-same a b o f c s h xo xf xc xs xh =
     decides-as
     (λ p. λ i. record { number = p .0 .0 .0 .0 .0 .0 .0 i; reference = p .0 .0 .0 .0 .0 .0 .1 i; own = p .0 .0 .0 .0 .0 .1 i; form = p .0 .0 .0 .0 .1 i; crossing = p .0 .0 .0 .1 i; second = p .0 .0 .1 i; changes = p .0 .1 i; reason = p .1 i })
     (λ e. (((((((ap (λ (x : Figures). x .number) e, ap (λ (x : Figures). x .reference) e), ap (λ (x : Figures). x .own) e), ap (λ (x : Figures). x .form) e), ap (λ (x : Figures). x .crossing) e), ap (λ (x : Figures). x .second) e), ap (λ (x : Figures). x .changes) e), ap (λ (x : Figures). x .reason) e))
-    (decides-and (decides-and (decides-and (decides-and (decides-and (decides-and (decides-and (equals (a .number) (b .number)) (equals (a .reference) (b .reference))) xo) (decides-by xf (formCode-one (a .form) (b .form)))) xc) xs) xh) (equals (a .reason) (b .reason)))
+    (decides-and (decides-and (decides-and (decides-and (decides-and (decides-and (decides-and (equals (a .number) (b .number)) (equals (a .reference) (b .reference))) xo) (decides-by xf (form-one (a .form) (b .form)))) xc) xs) xh) (equals (a .reason) (b .reason)))
 
 -- LENGTHS, one part after the other
 
@@ -194,10 +103,10 @@ lengths-same a b = record {
 
 -- TWO RECORDS
 
-pub records-alike : (a b : Record) (l f : Bool) → Decides l ((k : ℕ) → sizes a k ≡ sizes b k) → Decides f (a .figures ≡ b .figures) → Decides ((eqb (kindCode (a .kind)) (kindCode (b .kind)) && l) && f) (Alike a b)
+pub records-alike : (a b : Record) (l f : Bool) → Decides l ((k : ℕ) → sizes a k ≡ sizes b k) → Decides f (a .figures ≡ b .figures) → Decides ((eqb (kindNumber (a .kind)) (kindNumber (b .kind)) && l) && f) (Alike a b)
 records-alike a b l f x y =
     decides-as (λ p. record { kinds = p .0 .0; lengths = p .0 .1; figures = p .1 }) (λ z. ((z .kinds, z .lengths), z .figures))
-    (decides-and (decides-and (kindCode-one (a .kind) (b .kind)) x) y)
+    (decides-and (decides-and (kind-one (a .kind) (b .kind)) x) y)
 
 -- a text reads back as a record
 pub record Back (t : List ℕ) (r : Record) : Type 0 where

@@ -18,16 +18,9 @@ use Rattle.writer.specs.Written.{breaks-laid, breaks-back, text-back, la
 use Rattle.writer.specs.declared.Drafting.the-variants.{Written, BreaksRule}
 use Rattle.writer.specs.Draft.{digits, figuresAs, Draws}
 use Rattle.writer.specs.Moved.{numberBytes, whole, movedRecord, otherParts, moved-len, drafted-written, written-drafted, adds-moved}
+use Rattle.scan.specs.Laws.{four}
 
 -- THE BYTES OF A NUMBER
-
-four : (s : List ℕ) → length s ≡ 4 → s ≡ getD s 0 0 ∷ getD s 1 0 ∷ getD s 2 0 ∷ getD s 3 0 ∷ []
-four [] e = absurd (omega arith)
-four (a ∷ []) e = absurd (omega arith)
-four (a ∷ b ∷ []) e = absurd (omega arith)
-four (a ∷ b ∷ c ∷ []) e = absurd (omega arith)
-four (a ∷ b ∷ c ∷ x ∷ []) e = refl
-four (a ∷ b ∷ c ∷ x ∷ y ∷ s) e = absurd (omega arith)
 
 pub number-made : (ours partners : List ℕ) (n : ℕ) → length ours ≡ 4 → length partners ≡ 4 → getD ours 0 0 ∷ getD ours 1 0 ∷ getD ours 2 0 ∷ getD ours 3 0 ∷ 47 ∷ getD partners 0 0 ∷ getD partners 1 0 ∷ getD partners 2 0 ∷ getD partners 3 0 ∷ (48 + n / 100) ∷ (48 + (n / 10) % 10) ∷ (48 + n % 10) ∷ [] ≡ numberBytes ours partners n
 unfolding numberBytes digits

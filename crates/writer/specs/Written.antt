@@ -24,7 +24,7 @@ use Rattle.pen.specs.Listed.{spanOf, Inside}
 use Rattle.writer.specs.Writing.{contentOf, Writes, Wrote}
 use Rattle.compose.specs.Recorded.{partNames, nameless, its-inside}
 use Rattle.writer.specs.Writer.{text-of, text-short, text-alike, alike-text}
-use Rattle.pen.specs.Laying.{AllInside, Stands, Adds, start, opening, blocks, spans}
+use Rattle.pen.specs.Laying.{AllInside, Stands, Adds, start, opening, blocks, spans, spansAt, all-inside}
 use Rattle.scan.specs.Bools.{or-split, known, Decides}
 use Rattle.writer.specs.Comparing.{Back}
 use Rattle.compose.specs.Composed.{composed, composed-is}
@@ -36,14 +36,6 @@ orderedNames =
     ∷ 1 ∷ 2 ∷ 3 ∷ 4 ∷ 5 ∷ 6 ∷ 7 ∷ 8 ∷ 9 ∷ 10 ∷ 11 ∷ 64 ∷ 65 ∷ 66 ∷ 67 ∷ 68 ∷ 12 ∷ 13 ∷ 14 ∷ 15 ∷ 16 ∷ 17 ∷ 18 ∷ 19 ∷ 20
     ∷ 33 ∷ 34 ∷ 35 ∷ 36 ∷ 37 ∷ 38 ∷ 39 ∷ 40 ∷ 41 ∷ 42 ∷ 43 ∷ 44 ∷ 45 ∷ 46 ∷ 47 ∷ 48 ∷ 49 ∷ 50 ∷ 51 ∷ 52
     ∷ 69 ∷ 70 ∷ 71 ∷ []
-
-abbrev spansAt : (ℕ → Span) → List ℕ → List Span
-spansAt f [] = []
-spansAt f (n ∷ ns) = f n ∷ spansAt f ns
-
-all-at : (d : List ℕ) (f : ℕ → Span) (ns : List ℕ) → ((k : ℕ) → Inside d (f k)) → AllInside d (spansAt f ns)
-all-at d f [] h = tt
-all-at d f (n ∷ ns) h = (h n, all-at d f ns h)
 
 each-at : (d : List ℕ) (f : ℕ → Span) (ns : List ℕ) → AllInside d (spansAt f ns) → (k : ℕ) → among k ns ≡ true → Inside d (f k)
 unfolding among
@@ -69,7 +61,7 @@ module _ (d : List ℕ) (r : Record) (t₀ t : List ℕ) (p : Pen) (z : length t
   -- it did not fit, or a part lies outside
   pub breaks-laid : p .ok ≡ false → (w : List ℕ) → Writes d r w → ⊥
   breaks-laid o w x =
-      let h = a .off [] at-start refl (all-at d (spanOf r) orderedNames (x .inside)) o in
+      let h = a .off [] at-start refl (all-inside d (spanOf r) (x .inside) orderedNames) o in
       omega (arith, h, z, ap length (composed-is d r), ap length (text-of d r w x), text-short d r w x)
 
   module _ (o : p .ok ≡ true) where

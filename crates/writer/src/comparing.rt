@@ -2,7 +2,7 @@
 ghost use mathlib.Core.Path.{_≡_};
 ghost use mathlib.Core.Bool.{true};
 ghost use Rattle.scan.specs.Bools.{Decides};
-ghost use Rattle.writer.specs.Comparing.{kindCode, levelCode, formCode, evenly};
+ghost use Rattle.writer.specs.Comparing.{evenly};
 ghost use Rattle.writer.specs.Writer.{Alike};
 ghost use Rattle.pen.specs.Listed.{numberParts, planParts, restParts, partsIn};
 use changes::Plan;
@@ -16,55 +16,13 @@ use message::Record;
 use types::Number;
 use types::Parts;
 
-fn kind_code(k: Kind) -> u8
-    ensures { λ r. ⌜ r ≡ kindCode k ⌝ }
-{
-    match k {
-        Kind::None => 0,
-        Kind::Fpl => 1,
-        Kind::Cpl => 2,
-        Kind::Est => 3,
-        Kind::Chg => 4,
-        Kind::Cnl => 5,
-        Kind::Rti => 6,
-        Kind::Rta => 7,
-        Kind::Rla => 8,
-        Kind::Lam => 9,
-        Kind::Lrm => 10,
-    }
-}
-
-fn level_code(k: LevelKind) -> u8
-    ensures { λ r. ⌜ r ≡ levelCode k ⌝ }
-{
-    match k {
-        LevelKind::Absent => 0,
-        LevelKind::FlightLevel => 1,
-        LevelKind::Altitude => 2,
-        LevelKind::MetricLevel => 3,
-        LevelKind::MetricAltitude => 4,
-        LevelKind::Vfr => 5,
-    }
-}
-
-fn form_code(k: PointForm) -> u8
-    ensures { λ r. ⌜ r ≡ formCode k ⌝ }
-{
-    match k {
-        PointForm::NoPoint => 0,
-        PointForm::Name => 1,
-        PointForm::Bearing => 2,
-        PointForm::Degrees => 3,
-        PointForm::Minutes => 4,
-    }
-}
-
 fn same_level(a: Level, b: Level) -> bool
     ensures { λ r. ⌜ Decides r (a ≡ b) ⌝ }
 {
     let x = a.kind;
     let y = b.kind;
-    (level_code(x) == level_code(y)) & (a.figure == b.figure)
+    (message::numbered::level_number(x) == message::numbered::level_number(y))
+        & (a.figure == b.figure)
 }
 
 fn same_plan_figures(a: PlanFigures, b: PlanFigures) -> bool
@@ -79,7 +37,7 @@ fn same_figures(a: Figures, b: Figures) -> bool
     let x = a.form;
     let y = b.form;
     let own = same_plan_figures(a.own, b.own);
-    let form = form_code(x) == form_code(y);
+    let form = message::numbered::form_number(x) == message::numbered::form_number(y);
     let crossing = same_level(a.crossing, b.crossing);
     let second = same_level(a.second, b.second);
     let changes = same_plan_figures(a.changes, b.changes);
@@ -157,7 +115,7 @@ pub(crate) fn alike(a: Record, b: Record) -> bool
 {
     let x = a.kind;
     let y = b.kind;
-    (kind_code(x) == kind_code(y))
+    (message::numbered::kind_number(x) == message::numbered::kind_number(y))
         & same_lengths(a.parts, b.parts)
         & same_figures(a.figures, b.figures)
 }

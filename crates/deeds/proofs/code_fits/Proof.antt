@@ -13,7 +13,7 @@ returns-2 : tie.Need-returns-2
 returns-2 c =
     let s = c .before .before .before .before .before .before in
     let a = s .args in
-    same-on (c .same .ensures) (c .before .before .part .ensures) (c .before .text-at .ensures)
+    same-on (c .same .ensures) (c .before .before .part-of .ensures) (c .before .text-at .ensures)
     ∙ code-given (a .w .now) (a .r .parts .own .code) (flightOf (a .b .now) .code) (code-in (a .w .now) (a .r) (s .pre .1)) (c .before .before .before .if1 .left)
 
 pub code-fits-spec : {M : Type 1} → statement M

@@ -14,7 +14,7 @@ may-on-requires c κs =
     let s = c .before .before .before .before .before .before .before .before .before .before .before in
     let a = s .args in
     let m = messageOf (a .w .now) (a .r) in
-    let p = where-is (old m) (a .table .now) _ _ _ _ (c .before .before .before .find .ensures) (c .before .before .before .before .before .before .part .ensures) (c .before .before .before .before .before .part2 .ensures) (c .before .before .before .before .part3 .ensures) ∙ c .before .p .given .1 in
+    let p = where-is (old m) (a .table .now) _ _ _ _ (c .before .before .before .find .ensures) (c .before .before .before .before .before .before .part-of .ensures) (c .before .before .before .before .before .part-of2 .ensures) (c .before .before .before .before .part-of3 .ensures) ∙ c .before .p .given .1 in
     (found-in (old m) (a .table .now) _ p, s .pre, c .before .before .before .before .before .before .before .deed-of .ensures)
 
 -- its flight is there, and the condition holds
@@ -23,7 +23,7 @@ returns c =
     let s = c .before .before .before .before .before .before .before .before .before .before .before .before .before in
     let a = s .args in
     let m = messageOf (a .w .now) (a .r) in
-    let p = where-is (old m) (a .table .now) _ _ _ _ (c .before .before .before .before .before .find .ensures) (c .before .before .before .before .before .before .before .before .part .ensures) (c .before .before .before .before .before .before .before .part2 .ensures) (c .before .before .before .before .before .before .part3 .ensures) ∙ c .before .before .before .p .given .1 in
+    let p = where-is (old m) (a .table .now) _ _ _ _ (c .before .before .before .before .before .find .ensures) (c .before .before .before .before .before .before .before .before .part-of .ensures) (c .before .before .before .before .before .before .before .part-of2 .ensures) (c .before .before .before .before .before .before .part-of3 .ensures) ∙ c .before .before .before .p .given .1 in
     decided-at m (a .table .now) _ (c .before .before .before .before .before .before .before .before .before .deed-of .ensures) _ p _ true (c .before .may-on .ensures) (c .if1 .taken)
 
 -- it makes a flight
@@ -32,7 +32,7 @@ returns-2 c =
     let s = c .before .before .before .before .before .before .before .before .before .before .before .before .before in
     let a = s .args in
     let m = messageOf (a .w .now) (a .r) in
-    let p = where-is (old m) (a .table .now) _ _ _ _ (c .before .before .before .before .before .find .ensures) (c .before .before .before .before .before .before .before .before .part .ensures) (c .before .before .before .before .before .before .before .part2 .ensures) (c .before .before .before .before .before .before .part3 .ensures) ∙ c .before .before .before .enum-told .given .1 in
+    let p = where-is (old m) (a .table .now) _ _ _ _ (c .before .before .before .before .before .find .ensures) (c .before .before .before .before .before .before .before .before .part-of .ensures) (c .before .before .before .before .before .before .before .part-of2 .ensures) (c .before .before .before .before .before .before .part-of3 .ensures) ∙ c .before .before .before .enum-told .given .1 in
     c .new-place .ensures ∙ decided-new m (a .table .now) _ (c .before .before .before .before .before .before .before .before .before .deed-of .ensures) p _ true (c .before .before .makes .ensures) (c .before .if2 .taken)
 
 returns-3 : tie.Need-returns-3
@@ -40,7 +40,7 @@ returns-3 c =
     let s = c .before .before .before .before .before .before .before .before .before .before .before .before .before in
     let a = s .args in
     let m = messageOf (a .w .now) (a .r) in
-    let p = where-is (old m) (a .table .now) _ _ _ _ (c .before .before .before .before .before .find .ensures) (c .before .before .before .before .before .before .before .before .part .ensures) (c .before .before .before .before .before .before .before .part2 .ensures) (c .before .before .before .before .before .before .part3 .ensures) ∙ c .before .before .before .p .given .1 in
+    let p = where-is (old m) (a .table .now) _ _ _ _ (c .before .before .before .before .before .find .ensures) (c .before .before .before .before .before .before .before .before .part-of .ensures) (c .before .before .before .before .before .before .before .part-of2 .ensures) (c .before .before .before .before .before .before .part-of3 .ensures) ∙ c .before .before .before .p .given .1 in
     decided-at m (a .table .now) _ (c .before .before .before .before .before .before .before .before .before .deed-of .ensures) _ p _ false (c .before .may-on .ensures) (c .if1 .left)
 
 returns-4 : tie.Need-returns-4
@@ -48,7 +48,7 @@ returns-4 c =
     let s = c .before .before .before .before .before .before .before .before .before .before .before .before in
     let a = s .args in
     let m = messageOf (a .w .now) (a .r) in
-    let p = where-is (old m) (a .table .now) _ _ _ _ (c .before .before .before .before .find .ensures) (c .before .before .before .before .before .before .before .part .ensures) (c .before .before .before .before .before .before .part2 .ensures) (c .before .before .before .before .before .part3 .ensures) ∙ c .before .before .enum-told .given .1 in
+    let p = where-is (old m) (a .table .now) _ _ _ _ (c .before .before .before .before .find .ensures) (c .before .before .before .before .before .before .before .part-of .ensures) (c .before .before .before .before .before .before .part-of2 .ensures) (c .before .before .before .before .before .part-of3 .ensures) ∙ c .before .before .enum-told .given .1 in
     decided-new m (a .table .now) _ (c .before .before .before .before .before .before .before .before .deed-of .ensures) p _ false (c .before .makes .ensures) (c .if2 .left)
 
 pub decide-spec : {M : Type 1} → statement M

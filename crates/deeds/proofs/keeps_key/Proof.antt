@@ -6,9 +6,9 @@ use Rattle.deeds.proofs.keeps_key.Tie as tie
 
 returns : tie.Need-returns
 returns c =
-    let x = same-on (c .before .before .before .before .before .before .same .ensures) (c .before .before .before .before .before .before .before .before .or-own .ensures) (c .before .before .before .before .before .before .before .part .ensures) in
-    let y = same-on (c .before .before .before .same2 .ensures) (c .before .before .before .before .before .or-own2 .ensures) (c .before .before .before .before .part2 .ensures) in
-    let z = same-on (c .same3 .ensures) (c .before .before .or-own3 .ensures) (c .before .part3 .ensures) in
+    let x = same-on (c .before .before .before .before .before .before .same .ensures) (c .before .before .before .before .before .before .before .before .or-own .ensures) (c .before .before .before .before .before .before .before .part-of .ensures) in
+    let y = same-on (c .before .before .before .same2 .ensures) (c .before .before .before .before .before .or-own2 .ensures) (c .before .before .before .before .part-of2 .ensures) in
+    let z = same-on (c .same3 .ensures) (c .before .before .or-own3 .ensures) (c .before .part-of3 .ensures) in
     λ k. (x k && y k) && z k
 
 pub keeps-key-spec : {M : Type 1} → statement M

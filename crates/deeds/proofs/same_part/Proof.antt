@@ -10,4 +10,4 @@ same-part-spec =
     (λ c κs. c .before .pre .0)
     (λ c κs. c .before .before .pre .1)
     (λ c κs. tt)
-    (λ c. same-on (c .same .ensures) (c .before .before .part .ensures) (c .before .part2 .ensures)))
+    (λ c. same-on (c .same .ensures) (c .before .before .part-of .ensures) (c .before .part-of2 .ensures)))

@@ -8,9 +8,10 @@ use Rattle.reader.specs.Reading.{Judged}
 use Rattle.message.specs.declared.Verdict.the-variants.{Read}
 use Rattle.unanswered.specs.Waiting.{waitingOf, place}
 use Rattle.deeds.specs.Message.{messageOf}
-use Rattle.hearing.specs.Crosses.{waits-at, waits-derived, waits-crosses, retires-as, alone-comes, beside-comes, crossing-comes}
+use Rattle.hearing.specs.Crosses.{waits-derived, waits-crosses, retires-as, alone-comes, beside-comes, crossing-comes}
 use Rattle.hearing.proofs.hear_acceptance.Statement.{statement}
 use Rattle.hearing.proofs.hear_acceptance.Tie as tie
+use Rattle.hearing.specs.Settles.{found-used}
 
 find-requires : tie.Need-find-requires
 find-requires c κs =
@@ -25,7 +26,7 @@ text-requires c κs =
     let h = s .pre in
     let a = s .args in
     let i : ℕ = p′ .p .given .0 .0 in
-    let w = waits-at (h .2) (a .r .figures .reference) i (sym (find′ .find .ensures) ∙ p′ .p .given .1) in
+    let w = found-used (a .r .figures .reference) i (h .2) (sym (find′ .find .ensures) ∙ p′ .p .given .1) in
     (h .2 .whole, w .below, w .short)
 
 kept-record-requires : tie.Need-kept-record-requires
@@ -36,7 +37,7 @@ kept-record-requires c κs =
     let h = s .pre in
     let a = s .args in
     let i : ℕ = p′ .p .given .0 .0 in
-    let w = waits-at (h .2) (a .r .figures .reference) i (sym (find′ .find .ensures) ∙ p′ .p .given .1) in
+    let w = found-used (a .r .figures .reference) i (h .2) (sym (find′ .find .ensures) ∙ p′ .p .given .1) in
     waits-derived w _ (c .text .ensures)
 
 retires-requires : tie.Need-retires-requires
@@ -57,7 +58,7 @@ hear-crossing-requires c κs =
     let a = s .args in
     let m = messageOf (a .w .now) (a .r) in
     let i : ℕ = p′ .p .given .0 .0 in
-    let w = waits-at (h .2) (a .r .figures .reference) i (sym (find′ .find .ensures) ∙ p′ .p .given .1) in
+    let w = found-used (a .r .figures .reference) i (h .2) (sym (find′ .find .ensures) ∙ p′ .p .given .1) in
     let q = kept-record′ .kept-record .result in
     let t = waitingOf (place i (a .unanswered .now)) .text in
     let j : Judged t Read q = subst (λ (x : List ℕ). Judged x Read q) (text′ .text .ensures) (kept-record′ .kept-record .ensures) in

@@ -14,7 +14,7 @@ use Rattle.flights.specs.Flight.{Flight}
 use Rattle.deeds.specs.Message.{Message}
 use Rattle.deeds.specs.Deeds.{Key, sameKey, old}
 use Rattle.rules.specs.Sending.{oneOf}
-use Rattle.pair.specs.kinds.Tools.{upd, under, upd-same, upd-other, same?, key-yes, key-eq, and-yes, true-false, none-some, some-inj, cons-nil}
+use Rattle.pair.specs.kinds.Tools.{upd, under, upd-same, upd-other, same?, key-yes, true-false, none-some, some-inj, cons-nil}
 use Rattle.pair.specs.kinds.Kinds.{Content, own, near, Table, other, eff, put, grown, close, retires, isYes, properTo}
 use Rattle.pair.specs.kinds.Views.{View, RetiresOne, Retires, TakesOwn, TakesNear, Takes, Hears, first, late, again}
 use Rattle.pair.specs.exchange.Laws.{law-retires, law-retires-late, law-retires-live}
@@ -25,12 +25,11 @@ use Rattle.pair.specs.exchange.Waits.{Open, Waiting, Unanswered, pull-on
 use Rattle.pair.specs.exchange.Flights.{Flights, Done, Closed, yesed, not-yesed, Alike, alike, reframe, drop-own, apply-own, hear-own-no, hear-own-yes, hear-near, Pend, NoPend, Good, NoGood}
 use Rattle.pair.specs.exchange.Halves.{Own, Near, Shared, Half, in-window, found}
 use Rattle.pair.specs.exchange.Learnt.{newest-yesed, newest-not-nil}
+use Rattle.compose.specs.Layout.{isNil}
+use Rattle.scan.specs.Bools.{both, and-yes}
+use Rattle.rules.specs.Crossing.{same-key as key-eq}
 
 -- WHAT IS UNDER WAY CAN BE FOUND OUT
-
-isNil : List ℕ → Bool
-isNil [] = true
-isNil (x ∷ l) = false
 
 nil-yes : (l : List ℕ) → isNil l ≡ true → l ≡ []
 unfolding isNil
@@ -40,9 +39,6 @@ nil-yes (x ∷ l) e = absurd (true-false e refl)
 nil-is : (l : List ℕ) → l ≡ [] → isNil l ≡ true
 unfolding isNil
 nil-is l e = ap isNil e
-
-and-both : {a b : Bool} → a ≡ true → b ≡ true → (a && b) ≡ true
-and-both {a} {b} p q = ap (λ (c : Bool). c && b) p ∙ q
 
 -- a neighbour's message about the key k
 nearOn : Key → Content → Bool
@@ -77,7 +73,7 @@ pub pend? : {A : ℕ → Message → Type 0} {g : ℕ → List ℕ} {t : Script}
 pend? {t = t} {given = given} U F k = elim (decide U (λ (j : ℕ). nearOn k (t j) && isNil (given j))) [
   | inl f ↦ (let e = and-yes (nearOn k (t (f .0))) (isNil (given (f .0))) (f .2) in
       let c = near-on k (t (f .0)) (e .0) in inl (f .0, c .0, (f .1, c .1), c .2, nil-yes (given (f .0)) (e .1)))
-  | inr f ↦ inr (λ j c b q u. true-false (and-both (on-near k (t j) c (b .1) q) (nil-is (given j) u)) (f j (b .0)))
+  | inr f ↦ inr (λ j c b q u. true-false (both _ _ (on-near k (t j) c (b .1) q) (nil-is (given j) u)) (f j (b .0)))
 ]
 
 pub good? : {s : Script} {w : Open} {len : ℕ} {given : ℕ → List ℕ} {B : ℕ → Message → Type 0} {h : ℕ → List ℕ} {S R : Table}
@@ -85,7 +81,7 @@ pub good? : {s : Script} {w : Open} {len : ℕ} {given : ℕ → List ℕ} {B : 
 good? {s = s} {given = given} U F k = elim (decide U (λ (j : ℕ). ownOn k (s j) && yesed (given j))) [
   | inl f ↦ (let e = and-yes (ownOn k (s (f .0))) (yesed (given (f .0))) (f .2) in
       let c = own-on k (s (f .0)) (e .0) in inl (f .0, c .0, (f .1, c .1), c .2, e .1))
-  | inr f ↦ inr (λ j p b n y. true-false (and-both (on-own k (s j) p (b .1) n) y) (f j (b .0)))
+  | inr f ↦ inr (λ j p b n y. true-false (both _ _ (on-own k (s j) p (b .1) n) y) (f j (b .0)))
 ]
 
 -- an end with the highest number h and the kept answers k

@@ -9,10 +9,12 @@ use Rattle.flights.specs.Flight.{Flight}
 use Rattle.deeds.specs.Message.{Message}
 use Rattle.deeds.specs.Deeds.{Key, sameKey, deedOf, old, new, makes}
 use Rattle.rules.specs.Sending.{oneOf}
-use Rattle.pair.specs.kinds.Tools.{key?, key-yes, key-eq, true-false, none-some, some-inj}
+use Rattle.pair.specs.kinds.Tools.{key?, key-yes, true-false, none-some, some-inj}
 use Rattle.pair.specs.kinds.Kinds.{Content, own, near, messageOf, effect, takes, clash, Table, other, eff, put, grown}
 use Rattle.pair.specs.kinds.Views.{Applied, fails, full, stored}
 use Rattle.pair.specs.exchange.Laws.{law-place}
+use Rattle.rules.specs.Crossing.{same-key as key-eq}
+use Rattle.scan.specs.Bools.{or-l, or-r}
 
 -- A CONTENT IS ONE OF THE TWO
 
@@ -41,18 +43,10 @@ names? p k = elim (key? k (old p)) [ inl e ↦ inl (inl e) | inr m ↦ elim (key
     no-key m n (inl e) = m e
     no-key m n (inr e) = n e
 
-or-left : (a b : Bool) → a ≡ true → (a || b) ≡ true
-or-left true b e = refl
-or-left false b e = absurd (true-false e refl)
-
-or-right : (a b : Bool) → b ≡ true → (a || b) ≡ true
-or-right true b e = refl
-or-right false b e = e
-
 pub one-of : (p : Message) (k : Key) → Names p k → oneOf k p ≡ true
 unfolding oneOf
-one-of p k (inl e) = or-left (sameKey k (old p)) (sameKey k (new p)) (key-yes k (old p) e)
-one-of p k (inr e) = or-right (sameKey k (old p)) (sameKey k (new p)) (key-yes k (new p) e)
+one-of p k (inl e) = or-l (sameKey k (old p)) (sameKey k (new p)) (key-yes k (old p) e)
+one-of p k (inr e) = or-r (sameKey k (old p)) (sameKey k (new p)) (key-yes k (new p) e)
 
 pub of-one : (p : Message) (k : Key) → oneOf k p ≡ true → Names p k
 unfolding oneOf
@@ -66,13 +60,13 @@ of-one p k e = go (sameKey k (old p)) refl e
 pub clash-own : (p q : Message) (k : Key) → clash (own p) (own q) ≡ false → Names p k → Names q k → ⊥
 unfolding clash
 clash-own p q k f (inl e) m =
-    true-false (or-left (oneOf (old p) q) (oneOf (new p) q) (one-of q (old p) (subst (λ (v : Key). Names q v) e m))) f
+    true-false (or-l (oneOf (old p) q) (oneOf (new p) q) (one-of q (old p) (subst (λ (v : Key). Names q v) e m))) f
 clash-own p q k f (inr e) m =
-    true-false (or-right (oneOf (old p) q) (oneOf (new p) q) (one-of q (new p) (subst (λ (v : Key). Names q v) e m))) f
+    true-false (or-r (oneOf (old p) q) (oneOf (new p) q) (one-of q (new p) (subst (λ (v : Key). Names q v) e m))) f
 
 pub clash-near : (c d : Message) → clash (near c) (near d) ≡ false → old d ≢ old c
 unfolding clash
-clash-near c d f e = true-false (or-left (oneOf (old c) d) (oneOf (new c) d) (one-of d (old c) (inl (sym e)))) f
+clash-near c d f e = true-false (or-l (oneOf (old c) d) (oneOf (new c) d) (one-of d (old c) (inl (sym e)))) f
 
 -- PLACES
 

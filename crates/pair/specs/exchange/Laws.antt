@@ -6,7 +6,7 @@ use mathlib.Core.Option.{Option, none, some}
 use Prim.Native.Nat.{ℕ}
 use native.Mathlib.Omega.{arith}
 use lib.Dec.{eqb}
-use borrow.Author.Tests.{eq-eqb, eqb-true}
+use borrow.Author.Tests.{eq-eqb, eqb-true, not-true}
 use Rattle.message.specs.declared.Kind.{Kind}
 use Rattle.message.specs.declared.Kind.the-variants.{None, Fpl, Cpl, Est, Chg, Cnl, Rti, Rta, Rla, Lam, Lrm}
 use Rattle.message.specs.Record.{isChg}
@@ -18,34 +18,14 @@ use Rattle.deeds.specs.Message.{Message}
 use Rattle.deeds.specs.Deeds.{sameKey, deedBy, deedOf, old, new, changedKey, makes, may, mayOn, becomes, becomesOn, begins, isFiled, isCalm, isOffered, refers}
 use Rattle.rules.specs.Answers.{isAcceptance, isOffering, proper}
 use Rattle.rules.specs.Receiving as r
-use Rattle.pair.specs.kinds.Tools.{guard-yes, and-yes, true-false, none-some, some-inj, key-yes, key-eq}
+use Rattle.pair.specs.kinds.Tools.{guard-yes, true-false, none-some, some-inj, key-yes}
 use Rattle.pair.specs.kinds.Kinds.{Content, orderly, effect, close, retires, Dead, messageOf, answerKind, properTo, againTo}
+use Rattle.rules.specs.Crossing.{same-key as key-eq}
+use Rattle.rules.specs.Laws.{accepts as accepts-is, offers as offers-is}
+use Rattle.scan.specs.Bools.{and-yes}
+use Rattle.scan.specs.Theory.{good-a as first-yes}
 
 -- WHICH DEED IT IS
-
-accepts-is : (d : Deed) → isAcceptance d ≡ true → d ≡ Accepts
-unfolding isAcceptance
-accepts-is Files e = absurd (true-false e refl)
-accepts-is Enters e = absurd (true-false e refl)
-accepts-is Amends e = absurd (true-false e refl)
-accepts-is Estimates e = absurd (true-false e refl)
-accepts-is Cancels e = absurd (true-false e refl)
-accepts-is Offers e = absurd (true-false e refl)
-accepts-is Retracts e = absurd (true-false e refl)
-accepts-is Accepts e = refl
-accepts-is Nothing e = absurd (true-false e refl)
-
-offers-is : (d : Deed) → isOffering d ≡ true → d ≡ Offers
-unfolding isOffering
-offers-is Files e = absurd (true-false e refl)
-offers-is Enters e = absurd (true-false e refl)
-offers-is Amends e = absurd (true-false e refl)
-offers-is Estimates e = absurd (true-false e refl)
-offers-is Cancels e = absurd (true-false e refl)
-offers-is Offers e = refl
-offers-is Retracts e = absurd (true-false e refl)
-offers-is Accepts e = absurd (true-false e refl)
-offers-is Nothing e = absurd (true-false e refl)
 
 changes-by : (k : Kind) (p : Message) → (isChg k ≡ false) ⊎ (deedBy k p ≡ Amends)
 unfolding isChg deedBy
@@ -101,20 +81,13 @@ record Applies (d : Deed) (p : Message) (x y z : Option Flight) : Type 0 where
   can : may d p x y ≡ true
   left : becomes d p x ≡ z
 
-not-yes : (b : Bool) → not b ≡ true → b ≡ false
-not-yes true e = absurd (true-false e refl)
-not-yes false e = refl
-
-first-yes : (a b c : Bool) → ((a && b) && c) ≡ true → a ≡ true
-first-yes a b c e = (and-yes a b ((and-yes (a && b) c e) .0)) .0
-
 applies : (p : Message) (x y z : Option Flight) → effect p x y ≡ some z → Applies (deedOf p) p x y z
 unfolding effect
 applies p x y z e =
     let g = guard-yes _ _ z e in
     let a = and-yes (not (isAcceptance (deedOf p)) && orderly x) (may (deedOf p) p x y) (g .0) in
     let b = and-yes (not (isAcceptance (deedOf p))) (orderly x) (a .0) in
-    record { owners = not-yes (isAcceptance (deedOf p)) (b .0); order = b .1; can = a .1; left = some-inj refl (g .1) }
+    record { owners = not-true (isAcceptance (deedOf p)) (b .0); order = b .1; can = a .1; left = some-inj refl (g .1) }
 
 calm-shut : (h : Handoff) → isCalm h ≡ true → isOffered h ≡ true → ⊥
 unfolding isCalm isOffered
@@ -138,7 +111,7 @@ only-retracts Files p x y z a o = absurd (true-false (a .can) refl)
 only-retracts Enters p x y z a o = absurd (true-false (a .can) refl)
 only-retracts Amends p x y z a o = absurd (filed-shut x (a .order) (first-yes _ _ _ (a .can)) o)
 only-retracts Estimates p x y z a o = absurd (filed-shut x (a .order) (first-yes _ _ _ (a .can)) o)
-only-retracts Cancels p x y z a o = absurd (true-false o (not-yes _ ((and-yes _ _ (a .can)) .0)))
+only-retracts Cancels p x y z a o = absurd (true-false o (not-true _ ((and-yes _ _ (a .can)) .0)))
 only-retracts Offers p x y z a o = absurd (calm-shut (x .handoff) ((and-yes (not (isFiled (x .status))) _ (first-yes _ _ _ (a .can))) .1) o)
 only-retracts Retracts p x y z a o = refl
 only-retracts Accepts p x y z a o = absurd (true-false refl (a .owners))

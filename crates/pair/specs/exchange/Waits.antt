@@ -9,11 +9,12 @@ use native.Mathlib.Omega.{arith}
 use native.Mathlib.Decide.{decLt}
 use lib.Dec.{leb}
 use borrow.Author.Tests.{le-leb, leb-true}
-use Rattle.pair.specs.kinds.Tools.{upd, upd-same, upd-other, same?, and-yes, true-false, none-some, cons-nil}
+use Rattle.pair.specs.kinds.Tools.{upd, upd-same, upd-other, same?, true-false, none-some, cons-nil}
 use Rattle.pair.specs.kinds.Kinds.{Content}
 use Rattle.pair.specs.kinds.Views.{gap}
 use Rattle.pair.specs.exchange.Runs.{Script, num, more}
 use Rattle.pair.specs.exchange.Numbers.{num-inj}
+use Rattle.scan.specs.Bools.{and-yes}
 
 -- what is unanswered, by number
 abbrev pub Open : Type 0

@@ -9,7 +9,7 @@ use native.Mathlib.Omega.{arith}
 use lib.ListN.{length}
 use lib.Dec.{ltb}
 use borrow.Author.Tests.{ltb-true, ltb-false}
-use Rattle.pair.specs.kinds.Tools.{keyOf, get-below, true-false, none-some, same?, key-eq, key-yes, key-no, key?}
+use Rattle.pair.specs.kinds.Tools.{keyOf, get-below, true-false, none-some, same?, key-yes, key-no, key?, free-none}
 use Rattle.scan.specs.Bools.{and-r, known}
 use Rattle.message.specs.declared.Record.{Record}
 use Rattle.message.specs.declared.Verdict.the-variants.{Read}
@@ -18,7 +18,7 @@ use Rattle.places.specs.declared.Place.{Place}
 use Rattle.places.specs.declared.Place.the-variants.{At, Nowhere}
 use Rattle.places.specs.Places.{Places, isFree, get, set, length-set, get-set, get-other, every-get, every-set, found-below, found-has, found-none}
 use Rattle.flights.specs.Flight.{Flight}
-use Rattle.flights.specs.Decoded.{SoundPlace, keyed}
+use Rattle.flights.specs.Decoded.{SoundPlace}
 use Rattle.flights.specs.Holding.{Alike, ApartPlaces, FlightsFormed}
 use Rattle.deeds.specs.declared.Deed.{Deed}
 use Rattle.deeds.specs.declared.Deed.the-variants.{Files, Enters, Amends, Estimates, Cancels, Offers, Retracts, Accepts, Nothing}
@@ -26,10 +26,12 @@ use Rattle.deeds.specs.declared.Decision.{Decision}
 use Rattle.deeds.specs.declared.Decision.the-variants.{Fails, Full, Done}
 use Rattle.deeds.specs.Message.{Message, messageOf}
 use Rattle.deeds.specs.Deeds.{Key, sameKey, deedOf, old, new, isFiled, refers, mayOn, makes, may, becomes}
-use Rattle.deeds.specs.Applying.{whereIs, lowestFree, heldAt, flightUnder, other, orFree, home, allowed, decidedAt, decision, after, applied}
+use Rattle.deeds.specs.Applying.{whereIs, lowestFree, heldAt, flightUnder, other, orFree, home, allowed, decidedAt, decision, after, applied, asked}
 use Rattle.pair.specs.views.Tables.{Single}
 use Rattle.pair.specs.keeping.Said.{Says, Stated, stated}
 use Rattle.pair.specs.keeping.Becoming.{Under, becomes-stated}
+use Rattle.perform.specs.Ready.{done-by, done-at}
+use Rattle.rules.specs.Crossing.{same-key as key-eq}
 
 -- ONE PLACE OF A KEY
 
@@ -99,37 +101,34 @@ module _ (l : Places Flight) (i : ℕ) (z : Option Flight) (k : Key) (f : Flight
 -- WHERE A KEY IS
 
 module _ (k : Key) where
-  abbrev asked : Option Flight → Bool
-  asked = keyed (k .aircraft) (k .departure) (k .destination)
-
-  asked-under : (z : Option Flight) → asked z ≡ true → Under k z
+  asked-under : (z : Option Flight) → asked k z ≡ true → Under k z
   asked-under none e = tt
   asked-under (some x) e = key-eq (keyOf x) k e
 
-  asked-some : (z : Option Flight) → asked z ≡ true → z ≡ none → ⊥
+  asked-some : (z : Option Flight) → asked k z ≡ true → z ≡ none → ⊥
   asked-some none e n = false≢true e
   asked-some (some x) e n = none-some n refl
 
-  under-asked : (z : Option Flight) (x : Flight) → z ≡ some x → keyOf x ≡ k → asked z ≡ true
-  under-asked z x e h = ap asked e ∙ key-yes (keyOf x) k h
+  under-asked : (z : Option Flight) (x : Flight) → z ≡ some x → keyOf x ≡ k → asked k z ≡ true
+  under-asked z x e h = ap (asked k) e ∙ key-yes (keyOf x) k h
 
   -- where it is nowhere, no place has it
   nowhere-alone : (i : ℕ) (l : Places Flight) → whereIs k l ≡ Nowhere → Alone k i l
-  nowhere-alone i l w j y e h = absurd (true-false (under-asked (get j l) y e h) (found-none asked 0 j l w (get-below j l y e)))
+  nowhere-alone i l w j y e h = absurd (true-false (under-asked (get j l) y e h) (found-none (asked k) 0 j l w (get-below j l y e)))
 
   none-nowhere : (l : Places Flight) → flightUnder k l ≡ none → whereIs k l ≡ Nowhere
   none-nowhere l e = go (whereIs k l) refl
     where
       go : (p : Place) → whereIs k l ≡ p → whereIs k l ≡ Nowhere
-      go (At i) w = absurd (asked-some (get i l) (found-has asked i l w) (ap (λ (p : Place). heldAt p l) (sym w) ∙ e))
+      go (At i) w = absurd (asked-some (get i l) (found-has (asked k) i l w) (ap (λ (p : Place). heldAt p l) (sym w) ∙ e))
       go Nowhere w = w
 
   found-alone : (i : ℕ) (l : Places Flight) → FlightsFormed l → whereIs k l ≡ At i → Alone k i l
   found-alone i l f w = go (get i l) refl
     where
       go : (z : Option Flight) → get i l ≡ z → Alone k i l
-      go none g = absurd (asked-some (get i l) (found-has asked i l w) g)
-      go (some x) g = λ j y e h. distinct l f j i y x e g (h ∙ sym (under-some k (get i l) x (asked-under (get i l) (found-has asked i l w)) g))
+      go none g = absurd (asked-some (get i l) (found-has (asked k) i l w) g)
+      go (some x) g = λ j y e h. distinct l f j i y x e g (h ∙ sym (under-some k (get i l) x (asked-under (get i l) (found-has (asked k) i l w)) g))
 
 -- WHERE IT IS DONE
 
@@ -139,18 +138,6 @@ record Home (m : Message) (l : Places Flight) (i : ℕ) : Type 0 where
   allows : may (deedOf m) m (get i l) (other m l) ≡ true
   under : Under (old m) (get i l)
   alone : Alone (old m) i l
-
-done-by : (b : Bool) (c : Decision) (i : ℕ) → cond b c Fails ≡ Done i → (b ≡ true) × (c ≡ Done i)
-done-by true c i e = (refl, e)
-done-by false c i e = let z : _≡_ {A = ℕ} 0 1 = cc in absurd (omega arith)
-
-done-at : (p : Place) (i : ℕ) → decidedAt p ≡ Done i → p ≡ At i
-done-at (At j) i e = let z : j ≡ i = cc in ap At z
-done-at Nowhere i e = let z : _≡_ {A = ℕ} 0 1 = cc in absurd (omega arith)
-
-free-none : {A : Type 0} (z : Option A) → isFree z ≡ true → z ≡ none
-free-none none e = refl
-free-none (some a) e = absurd (false≢true e)
 
 home-is : (m : Message) (l : Places Flight) (i : ℕ) → FlightsFormed l → decision m l ≡ Done i → Home m l i
 unfolding decision

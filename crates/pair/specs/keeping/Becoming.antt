@@ -22,9 +22,11 @@ use Rattle.excerpt.specs.ByKind.{Filed, Coordinated}
 use Rattle.deeds.specs.declared.Deed.{Deed}
 use Rattle.deeds.specs.declared.Deed.the-variants.{Files, Enters, Amends, Estimates, Cancels, Offers, Retracts, Accepts, Nothing}
 use Rattle.deeds.specs.Message.{Message}
-use Rattle.deeds.specs.Deeds.{Key, deedOf, orHeld, old, new, isFiled, isCalm, isOffered, isNone, refers, codeFits, mayOn, makes, may, made, withField, amended, estimated, becomesOn, begins, becomes}
+use Rattle.deeds.specs.Deeds.{Key, deedOf, orHeld, old, new, isFiled, isCalm, isOffered, refers, codeFits, mayOn, makes, may, made, withField, amended, estimated, becomesOn, begins, becomes}
 use Rattle.perform.specs.Performed.{offered-sound, accepted-sound, none-sound}
 use Rattle.pair.specs.keeping.Said.{Timely, Says, Stated}
+use Rattle.places.specs.Places.{isFree as isNone}
+use Rattle.hearing.specs.Crosses.{not-filed as is-active}
 
 -- free, or with a flight of this key
 abbrev pub Under : Key → Option Flight → Type 0
@@ -144,11 +146,6 @@ is-filed : (o : Status) → isFiled o ≡ true → o ≡ filed
 unfolding isFiled
 is-filed filed e = refl
 is-filed active e = absurd (false≢true e)
-
-is-active : (o : Status) → not (isFiled o) ≡ true → o ≡ active
-unfolding isFiled
-is-active filed e = absurd (false≢true e)
-is-active active e = refl
 
 -- an offered flight is active, so that its offer number is a number
 offer-active : (o : Status) (h : Handoff) (n : ℕ) → Offered o h n → isOffered h ≡ true → (o ≡ active) × (n ≤ 999)

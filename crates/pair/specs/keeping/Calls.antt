@@ -30,7 +30,7 @@ use Rattle.deeds.specs.Message.{Message}
 use Rattle.deeds.specs.Deeds.{deedOf}
 use Rattle.deeds.specs.Applying.{decision, applied, lowestFree}
 use Rattle.memory.specs.End.{End}
-use Rattle.rules.specs.Replies.{Refusal, Reply, refused, done, number}
+use Rattle.rules.specs.Replies.{Refusal, Reply, refused, done, number, done-end, refused-done}
 use Rattle.rules.specs.Reads.{messageIn, read-message}
 use Rattle.rules.specs.Answers.{answerTo, proper, isGood, isOffering, isAcceptance}
 use Rattle.rules.specs.Laws.{answer-value}
@@ -62,13 +62,10 @@ abbrev Leads : End → Reply → Type 0
 Leads e x = (e′ : End) (t : List ℕ) → x ≡ done e′ t → Stays e e′
 
 leads-not : (e : End) (r : Refusal) → Leads e (refused r)
-leads-not e r e′ t q = let z : _≡_ {A = ℕ} 0 1 = cc in absurd (omega arith)
-
-done-end : (a b : End) (t u : List ℕ) → done a t ≡ done b u → a ≡ b
-done-end a b t u q = cc
+leads-not e r e′ t q = absurd (refused-done q)
 
 leads-on : (e a : End) (t : List ℕ) → Stays e a → Leads e (done a t)
-leads-on e a t s e′ u q = subst (Stays e) (done-end a e′ t u q) s
+leads-on e a t s e′ u q = subst (Stays e) (done-end q) s
 
 leads-if : (e : End) (b : Bool) (x y : Reply) → Leads e x → Leads e y → Leads e (cond b x y)
 leads-if e true x y p q = p

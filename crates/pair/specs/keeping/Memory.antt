@@ -16,7 +16,7 @@ use Rattle.places.specs.Stored.{Kept, Fits, places-back, length-bytes, place-by
 use Rattle.flights.specs.Flight.{Flight}
 use Rattle.flights.specs.Decoded.{SoundPlace, flights-back}
 use Rattle.flights.specs.Holding.{ApartPlaces, FlightsFormed, flights-formed, table-formed}
-use Rattle.unanswered.specs.Waiting.{Waiting, waitingOf, Proper, WellFormed, place, free, Apart, UnansweredFormed}
+use Rattle.unanswered.specs.Waiting.{Waiting, waitingOf, Proper, WellFormed, place, Apart, UnansweredFormed}
 use Rattle.unanswered.specs.Encoded.{bytes-long, proper-short}
 use Rattle.unanswered.specs.Encoded as encoded
 use Rattle.answers.specs.Given.{isValue, AnswersFormed}
@@ -25,6 +25,7 @@ use Rattle.memory.specs.Held.{sixteen, waiting-free, waiting-used}
 use Rattle.rules.specs.Sending.{fresh}
 use Rattle.pair.specs.kinds.Ends.{WaitingFormed, SoundEnd}
 use Rattle.pair.specs.keeping.Applied.{order?}
+use Rattle.places.specs.Bytes.{free}
 
 -- FROM THE MEMORY
 

@@ -11,10 +11,11 @@ use borrow.Author.Tests.{eq-eqb, ne-eqb}
 use native.Mathlib.Omega.{arith}
 use lib.ListN.{length}
 use Rattle.flights.specs.Flight.{Flight}
-use Rattle.places.specs.Places.{Places, get}
+use Rattle.places.specs.Places.{Places, get, isFree}
 use Rattle.deeds.specs.Message.{Message}
 use Rattle.deeds.specs.Deeds.{Key, sameKey, orHeld, old, changedKey, amended}
-use Rattle.places.specs.Bytes.{same, same-is}
+use Rattle.places.specs.Bytes.{same-is}
+use Rattle.rules.specs.Crossing.{same-key as key-eq}
 
 -- x stands where the test passes
 unfoldable pub guard : {A : Type 0} → Bool → Option A → Option A
@@ -45,10 +46,6 @@ unfolding guard
 guard-yes true x a e = (refl, e)
 guard-yes false x a e = absurd (mathlib.Core.Option.Option·none-ne-some a e)
 
-pub and-yes : (a b : Bool) → (a && b) ≡ true → (a ≡ true) × (b ≡ true)
-and-yes true b e = (refl, e)
-and-yes false b e = (e, (cc))
-
 pub true-false : {b : Bool} → b ≡ true → b ≡ false → ⊥
 true-false p q = mathlib.Core.Bool.true≢false (sym p ∙ q)
 
@@ -58,13 +55,8 @@ none-some {A} {o} {a} p q = mathlib.Core.Option.Option·none-ne-some a (sym p �
 pub some-inj : {A : Type 0} {o : Option A} {a b : A} → o ≡ some a → o ≡ some b → a ≡ b
 some-inj {A} {o} {a} {b} p q = mathlib.Core.Option.Option·some-injective a b (sym p ∙ q)
 
-nil? : {A : Type 0} → List A → Bool
-nil? [] = true
-nil? (x ∷ l) = false
-
 pub cons-nil : {A : Type 0} {x : A} {l m : List A} → m ≡ (x ∷ l) → m ≡ [] → ⊥
-unfolding nil?
-cons-nil p q = true-false (ap nil? q) (ap nil? p)
+cons-nil p q = omega (arith, ap length p, ap length q)
 
 -- a place that holds something is one of them
 pub get-below : {A : Type 0} (i : ℕ) (l : Places A) (a : A) → get i l ≡ some a → i < length l
@@ -72,6 +64,11 @@ unfolding get
 get-below i [] a e = absurd (none-some refl e)
 get-below zero (x ∷ l) a e = omega arith
 get-below (suc i) (x ∷ l) a e = let h : i < length l = get-below i l a e in omega arith
+
+-- a place that is free holds nothing
+pub free-none : {A : Type 0} (o : Option A) → isFree o ≡ true → o ≡ none
+free-none none e = refl
+free-none (some a) e = absurd (true-false e refl)
 
 -- KEYS
 
@@ -86,15 +83,6 @@ amended-key m x k = λ i. record {
   departure = orHeld (m .changes .departure) (k i .departure);
   destination = orHeld (m .changes .destination) (k i .destination);
 }
-
-pub key-eq : (a b : Key) → sameKey a b ≡ true → a ≡ b
-key-eq a b e =
-    let p = and-yes (same (a .aircraft) (b .aircraft) && same (a .departure) (b .departure)) (same (a .destination) (b .destination)) e in
-    let q = and-yes (same (a .aircraft) (b .aircraft)) (same (a .departure) (b .departure)) (p .0) in
-    let x = same-is (a .aircraft) (b .aircraft) .yes (q .0) in
-    let y = same-is (a .departure) (b .departure) .yes (q .1) in
-    let z = same-is (a .destination) (b .destination) .yes (p .1) in
-    λ i. record { aircraft = x i; departure = y i; destination = z i }
 
 pub key-self : (a : Key) → sameKey a a ≡ true
 key-self a =

@@ -41,7 +41,7 @@ use Rattle.deeds.specs.Deeds.{deedOf, old, makes}
 use Rattle.deeds.specs.Applying.{home, allowed, decidedAt, decision, after, applied}
 use Rattle.response.specs.Answering.{answerText}
 use Rattle.memory.specs.End.{End}
-use Rattle.rules.specs.Replies.{Refusal, refused, done, number}
+use Rattle.rules.specs.Replies.{Refusal, refused, done, number, refused-done, done-end, done-text}
 use Rattle.rules.specs.Reads.{messageIn, read-message}
 use Rattle.rules.specs.Answers.{answerTo, goodAnswer, isOffering, isAcceptance}
 use Rattle.rules.specs.Laws.{offers, answer-value, answer-given}
@@ -55,7 +55,7 @@ use Rattle.pair.specs.kinds.Views.{View, Applied, Retires, TakesOwn, Tak
 use Rattle.pair.specs.kinds.Ends.{WaitingFormed, SoundEnd, byKey, waitsIn, keptIn, viewOf}
 use Rattle.pair.specs.views.Tables.{close-is, applied-own, answered-own, applied-near, answered-near, applied-long}
 use Rattle.pair.specs.views.Waits.{waits-freed, waits-found, waits-nowhere, count-freed}
-use Rattle.pair.specs.views.Learnt.{message-heard, refused-done, done-end, done-text, content-own, content-near, content-message, settled-long}
+use Rattle.pair.specs.views.Learnt.{message-heard, content-own, content-near, content-message, settled-long}
 
 -- THE ANSWERS THAT ARE KEPT
 

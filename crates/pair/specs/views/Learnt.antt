@@ -5,7 +5,6 @@ use mathlib.Core.Bool.{Bool, true, false, cond, not, _&&_, _||_}
 use mathlib.Core.Option.{none, some}
 use mathlib.Core.List.{List, []}
 use Prim.Native.Nat.{ℕ, _+_}
-use native.Mathlib.Omega.{arith}
 use lib.ListN.{length}
 use lib.Dec.{eqb}
 use Rattle.scan.specs.Bools.{known}
@@ -24,7 +23,7 @@ use Rattle.deeds.specs.Message.{Message}
 use Rattle.deeds.specs.Deeds.{deedOf}
 use Rattle.deeds.specs.Applying.{applied}
 use Rattle.memory.specs.End.{End}
-use Rattle.rules.specs.Replies.{Refusal, refused, done, number}
+use Rattle.rules.specs.Replies.{refused, done, number, refused-done, done-end, done-text}
 use Rattle.rules.specs.Reads.{messageIn}
 use Rattle.rules.specs.Answers.{proper, isGood, isAcceptance}
 use Rattle.rules.specs.Receiving.{directed, waitingAt, settledSent, settled, settle, settleHeld, settleAt, hearAnswer, hearMessage, hear, receiveBy, receive}
@@ -54,17 +53,6 @@ answer-heard room w e v d a = read-heard room w e v ∙ directed-heard room (mes
 
 pub message-heard : (room : ℕ) (w : List ℕ) (e : End) → verdict w ≡ Read → directed (e .head) (messageIn w) ≡ true → isAnswer (messageIn w .kind) ≡ false → receive room w e ≡ hearMessage (standing (e .head .highest) (messageIn w .number)) room (messageIn w) e
 message-heard room w e v d a = read-heard room w e v ∙ directed-heard room (messageIn w) e d false a
-
--- REPLIES
-
-pub refused-done : {x : Refusal} {e : End} {t : List ℕ} → refused x ≡ done e t → ⊥
-refused-done p = let z : _≡_ {A = ℕ} 0 1 = cc in omega arith
-
-pub done-end : {a b : End} {s t : List ℕ} → done a s ≡ done b t → a ≡ b
-done-end p = cc
-
-pub done-text : {a b : End} {s t : List ℕ} → done a s ≡ done b t → s ≡ t
-done-text p = cc
 
 -- CONTENTS
 

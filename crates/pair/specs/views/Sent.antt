@@ -7,27 +7,27 @@ use Prim.Native.Nat.{ℕ, zero, suc, _+_, _%_, _<_}
 use native.Mathlib.Omega.{arith}
 use lib.ListN.{length, getD, replicate}
 use lib.Dec.{eqb, leb}
-use borrow.Author.Tests.{leb-false, eq-eqb}
-use Rattle.scan.specs.Bools.{and-l, and-r, both, or-l, or-r, neither}
+use borrow.Author.Tests.{leb-false, eq-eqb, not-false}
+use Rattle.scan.specs.Bools.{and-l, and-r, both, or-l, or-r, neither, sameBool}
 use Rattle.message.specs.declared.Kind.{Kind}
 use Rattle.message.specs.declared.Kind.the-variants.{None, Fpl, Cpl, Est, Chg, Cnl, Rti, Rta, Rla, Lam, Lrm}
 use Rattle.head.specs.declared.Head.{Head}
 use Rattle.places.specs.declared.Place.{Place}
 use Rattle.places.specs.declared.Place.the-variants.{At, Nowhere}
 use Rattle.places.specs.Bytes.{same, same-is}
-use Rattle.places.specs.Places.{Places, get, firstOf, used, empty}
+use Rattle.places.specs.Places.{Places, get, firstOf, used, empty, isFree as isNone}
 use Rattle.flights.specs.Flight.{Flight}
 use Rattle.unanswered.specs.Waiting.{Waiting, isAnswer}
 use Rattle.deeds.specs.declared.Deed.the-variants.{Retracts, Accepts, Nothing}
 use Rattle.deeds.specs.Message.{Message}
-use Rattle.deeds.specs.Deeds.{deedOf, deedBy, rtaDeed, inOrder, turned, refers, old, new, makes, may, mayOn, becomes, isFiled, isCalm, isOffered, isNone, codeFits}
+use Rattle.deeds.specs.Deeds.{deedOf, deedBy, rtaDeed, inOrder, turned, refers, old, new, makes, may, mayOn, becomes, isFiled, isCalm, isOffered, codeFits}
 use Rattle.deeds.specs.Applying.{allowed, applied, lowestFree, flightUnder, other}
 use Rattle.memory.specs.End.{End, numbered}
-use Rattle.rules.specs.Replies.{Reply, refused, done, Refusal, number}
+use Rattle.rules.specs.Replies.{Reply, refused, done, Refusal, number, refused-done, done-end, done-text}
 use Rattle.rules.specs.Reads.{messageIn}
 use Rattle.rules.specs.Answers.{isAcceptance}
 use Rattle.rules.specs.Receiving.{waitingAt, giving, units, referred, directed}
-use Rattle.rules.specs.Sending.{anyWaiting, countWaiting, tooOld, oneOf, sameSide, namesOne, naming, mayBeSent, making, fills, sending, sendAt, send, resendHeld, resendAt, resend, fresh}
+use Rattle.rules.specs.Sending.{anyWaiting, countWaiting, tooOld, oneOf, namesOne, naming, mayBeSent, making, fills, sending, sendAt, send, resendHeld, resendAt, resend, fresh}
 use Rattle.pair.specs.kinds.Tools.{true-false}
 use Rattle.pair.specs.kinds.Kinds.{Content, own, near, contentOf, messageOf, clash}
 use Rattle.pair.specs.kinds.Views.{gap, Opening, Sends, Fresh}
@@ -36,12 +36,6 @@ use Rattle.pair.specs.views.Tables.{eff-is, close-is, applied-near, tabl
 use Rattle.pair.specs.views.Waits.{waits-put, waits-nowhere, waits-some, count-put, any-none, makers-takes}
 
 -- WHAT A REPLY WAS
-
-refused-done : {x : Refusal} {e : End} {t : List ℕ} → refused x ≡ done e t → ⊥
-refused-done p = let z : _≡_ {A = ℕ} 0 1 = cc in omega arith
-
-done-is : {e f : End} {t u : List ℕ} → done e t ≡ done f u → (f ≡ e) × (u ≡ t)
-done-is p = ((cc), (cc))
 
 -- a check was passed
 passed : (b : Bool) (x : Refusal) (r : Reply) (e : End) (t : List ℕ) → cond b (refused x) r ≡ done e t → (b ≡ false) × (r ≡ done e t)
@@ -53,7 +47,7 @@ gave : (room : ℕ) (w : List ℕ) (e e′ : End) (t : List ℕ) → giving room
 gave room w e e′ t p = go (leb (length w) room) p
   where
     go : (b : Bool) → cond b (done e w) (refused (number 2)) ≡ done e′ t → (e′ ≡ e) × (t ≡ w)
-    go true q = done-is q
+    go true q = (sym (done-end q), sym (done-text q))
     go false q = absurd (refused-done q)
 
 -- SENDING
@@ -68,10 +62,6 @@ record Passed (p : Place) (w : List ℕ) (m : Message) (e e′ : End) (t : List 
   room : fills m e ≡ false
   end : e′ ≡ sending place w m e
   text : t ≡ w
-
-not-false : (b : Bool) → not b ≡ false → b ≡ true
-not-false true e = refl
-not-false false e = absurd (false≢true (sym e))
 
 send-passed : (p : Place) (room : ℕ) (w : List ℕ) (m : Message) (e e′ : End) (t : List ℕ) → sendAt p room w m e ≡ done e′ t → Passed p w m e e′ t
 unfolding sendAt
@@ -107,10 +97,10 @@ gap-self n = omega arith
 
 -- 7: two messages that do not name one flight do not clash
 apart-is : (m q : Message) → namesOne m q ≡ false → clash (contentOf m) (contentOf q) ≡ false
-unfolding namesOne sameSide contentOf clash
+unfolding namesOne sameBool contentOf clash
 apart-is m q = go (isAcceptance (deedOf m)) (isAcceptance (deedOf q))
   where
-    go : (a b : Bool) → (sameSide a b && (oneOf (old m) q || oneOf (new m) q)) ≡ false → clash (cond a (near m) (own m)) (cond b (near q) (own q)) ≡ false
+    go : (a b : Bool) → (sameBool a b && (oneOf (old m) q || oneOf (new m) q)) ≡ false → clash (cond a (near m) (own m)) (cond b (near q) (own q)) ≡ false
     go true true e = e
     go true false e = refl
     go false true e = refl

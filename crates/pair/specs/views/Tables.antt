@@ -9,7 +9,7 @@ use native.Mathlib.Omega.{arith}
 use lib.ListN.{length}
 use lib.Dec.{ltb}
 use borrow.Author.Tests.{ltb-true, ltb-false}
-use Rattle.pair.specs.kinds.Tools.{keyOf, amended-key, guard, under, same?, true-false, none-some, some-inj, and-yes, key-eq, key-yes, key-no, key?, under-same, under-other}
+use Rattle.pair.specs.kinds.Tools.{keyOf, amended-key, guard, under, same?, true-false, none-some, some-inj, key-yes, key-no, key?, under-same, under-other, get-below, free-none}
 use Rattle.message.specs.declared.Kind.{Kind}
 use Rattle.message.specs.declared.Kind.the-variants.{None, Fpl, Cpl, Est, Chg, Cnl, Rti, Rta, Rla, Lam, Lrm}
 use Rattle.message.specs.Record.{isChg}
@@ -17,7 +17,7 @@ use Rattle.places.specs.declared.Place.{Place}
 use Rattle.places.specs.declared.Place.the-variants.{At, Nowhere}
 use Rattle.places.specs.Places.{Places, isFree, get, set, firstOf, used, empty, length-set, get-set, get-other, every-get, found-below, found-has, found-none}
 use Rattle.flights.specs.Flight.{Flight, Status, filed, active, Handoff, Sound, Offered}
-use Rattle.flights.specs.Decoded.{keyed, SoundPlace}
+use Rattle.flights.specs.Decoded.{SoundPlace}
 use Rattle.flights.specs.Holding.{ApartPlaces, FlightsFormed}
 use Rattle.deeds.specs.declared.Deed.{Deed}
 use Rattle.deeds.specs.declared.Deed.the-variants.{Files, Enters, Amends, Estimates, Cancels, Offers, Retracts, Accepts, Nothing}
@@ -25,26 +25,17 @@ use Rattle.deeds.specs.declared.Decision.{Decision}
 use Rattle.deeds.specs.declared.Decision.the-variants.{Fails, Full, Done}
 use Rattle.deeds.specs.Message.{Message}
 use Rattle.deeds.specs.Deeds.{Key, inOrder, turned, rtaDeed, deedBy, deedOf, old, changedKey, new, isFiled, isCalm, refers, mayOn, makes, may, becomesOn, begins, becomes}
-use Rattle.deeds.specs.Applying.{whereIs, lowestFree, heldAt, flightUnder, other, orFree, allowed, decidedAt, decision, after, applied}
+use Rattle.deeds.specs.Applying.{whereIs, lowestFree, heldAt, flightUnder, other, orFree, allowed, decidedAt, decision, after, applied, asked}
 use Rattle.rules.specs.Answers.{goodAnswer, answerTo, isOffering, isAcceptance, proper}
 use Rattle.rules.specs.Laws.{accepts}
 use Rattle.pair.specs.kinds.Kinds as kind
 use Rattle.pair.specs.kinds.Kinds.{own, near, messageOf, orderly, effect, close, isYes, answerKind, properTo, Table, eff, put, grown}
 use Rattle.pair.specs.kinds.Views.{Applied, fails, full, stored}
 use Rattle.pair.specs.kinds.Ends.{byKey}
+use Rattle.rules.specs.Crossing.{same-key as key-eq}
+use Rattle.scan.specs.Bools.{and-yes}
 
 -- PLACES
-
--- a place with something in it is one of them
-get-below : {A : Type 0} (i : ℕ) (l : Places A) (x : A) → get i l ≡ some x → i < length l
-unfolding get
-get-below i [] x e = absurd (none-some refl e)
-get-below zero (y ∷ l) x e = omega arith
-get-below (suc i) (y ∷ l) x e = omega (arith, get-below i l x e)
-
-free-none : {A : Type 0} (o : Option A) → isFree o ≡ true → o ≡ none
-free-none none e = refl
-free-none (some a) e = absurd (false≢true e)
 
 -- no place is free: all are used
 all-used : {A : Type 0} (i : ℕ) (l : Places A) → firstOf isFree i l ≡ Nowhere → length l ≤ used l
@@ -78,24 +69,21 @@ grown-is (some x) (some z) u v e = omega arith
 -- WHERE A KEY IS
 
 module _ (k : Key) (l : Places Flight) where
-  abbrev asked : Option Flight → Bool
-  asked = keyed (k .aircraft) (k .departure) (k .destination)
-
   -- what it says that the key is at the place p
   abbrev pub Found : Place → Type 0
   Found (At i) = (byKey l k ≡ get i l) × ((x : Flight) × (get i l ≡ some x) × (keyOf x ≡ k))
   Found Nowhere = (byKey l k ≡ none) × ((i : ℕ) (x : Flight) → get i l ≡ some x → keyOf x ≡ k → ⊥)
 
-  has-key : (o : Option Flight) → asked o ≡ true → (x : Flight) × (o ≡ some x) × (keyOf x ≡ k)
+  has-key : (o : Option Flight) → asked k o ≡ true → (x : Flight) × (o ≡ some x) × (keyOf x ≡ k)
   has-key none e = absurd (false≢true e)
   has-key (some x) e = (x, refl, key-eq (keyOf x) k e)
 
   pub under-is : (p : Place) → whereIs k l ≡ p → Found p
   unfolding byKey
-  under-is (At i) e = (ap (λ (p : Place). heldAt p l) e, has-key (get i l) (found-has asked i l e))
+  under-is (At i) e = (ap (λ (p : Place). heldAt p l) e, has-key (get i l) (found-has (asked k) i l e))
   under-is Nowhere e = (
     ap (λ (p : Place). heldAt p l) e,
-    λ i x g q. true-false (ap asked g ∙ key-yes (keyOf x) k q) (found-none asked 0 i l e (get-below i l x g)),
+    λ i x g q. true-false (ap (asked k) g ∙ key-yes (keyOf x) k q) (found-none (asked k) 0 i l e (get-below i l x g)),
   )
 
 -- what stands under a key: a flight that some place has, or nothing where none has one
@@ -366,7 +354,7 @@ module _ (m : Message) (l : Places Flight) where
     where
       go : (b : Bool) (p q : Place) → allowed m l ≡ b → whereIs (old m) l ≡ p → lowestFree l ≡ q → Decided m l
       go false p q a w v = refused a (ap (λ (b : Bool). cond b (decidedAt (orFree (whereIs (old m) l) l)) Fails) a)
-      go true (At i) q a w v = placed i a (decided-by (At i) w a) (omega (arith, found-below (asked (old m) l) 0 i l w)) (under-is (old m) l (At i) w .0)
+      go true (At i) q a w v = placed i a (decided-by (At i) w a) (omega (arith, found-below (asked (old m)) 0 i l w)) (under-is (old m) l (At i) w .0)
       go true Nowhere (At i) a w v =
           placed i a (decided-by Nowhere w a ∙ ap decidedAt v) (omega (arith, found-below isFree 0 i l v))
           (under-is (old m) l Nowhere w .0 ∙ sym (free-none (get i l) (found-has isFree i l v)))
@@ -585,4 +573,4 @@ used-empty zero = refl
 used-empty (suc n) = used-empty n
 
 pub table-empty : (n : ℕ) → ((k : Key) → byKey (empty n) k ≡ none) × (used (empty {A = Flight} n) ≡ 0)
-table-empty n = (λ k. under-is k (empty n) Nowhere (nowhere-empty (asked k (empty n)) refl n 0) .0, used-empty n)
+table-empty n = (λ k. under-is k (empty n) Nowhere (nowhere-empty (asked k) refl n 0) .0, used-empty n)

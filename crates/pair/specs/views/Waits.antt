@@ -8,11 +8,11 @@ use Prim.Native.Nat.{ℕ, zero, suc, _+_, _<_}
 use native.Mathlib.Omega.{arith}
 use lib.ListN.{length}
 use borrow.Author.Tests.{eq-eqb, eqb-true, ne-eqb}
-use Rattle.pair.specs.kinds.Tools.{get-below, upd, upd-same, upd-other, same?, true-false, none-some, some-inj}
+use Rattle.pair.specs.kinds.Tools.{get-below, upd, upd-same, upd-other, same?, true-false, none-some, some-inj, free-none as is-free}
 use Rattle.scan.specs.Bools.{neither}
 use Rattle.places.specs.declared.Place.{Place}
 use Rattle.places.specs.declared.Place.the-variants.{At, Nowhere}
-use Rattle.places.specs.Places.{Places, get, set, firstOf, isFree, get-set, get-other, found-below, found-has, found-none}
+use Rattle.places.specs.Places.{Places, get, set, isFree, get-set, get-other, found-below, found-has, found-none}
 use Rattle.unanswered.specs.Waiting.{Waiting}
 use Rattle.deeds.specs.Message.{Message}
 use Rattle.deeds.specs.declared.Deed.{Deed}
@@ -26,6 +26,7 @@ use Rattle.rules.specs.Receiving.{waitingAt}
 use Rattle.rules.specs.Sending.{anyWaiting, countWaiting}
 use Rattle.pair.specs.kinds.Kinds.{Content, own, near, contentOf, takes}
 use Rattle.pair.specs.kinds.Ends.{WaitingFormed, contentIn, waitsIn}
+use Rattle.rules.specs.Crossing.{first-set}
 
 -- A PLACE WITH A NUMBER
 
@@ -79,20 +80,13 @@ none-there l n w = go (waitingAt n l) refl
 
 -- ONE PLACE IS CHANGED
 
--- to what is passed over as before
-first-as : {A : Type 0} (p : Option A → Bool) (k i : ℕ) (y : Option A) (l : Places A) → p y ≡ p (get i l) → firstOf p k (set i y l) ≡ firstOf p k l
-unfolding firstOf get set
-first-as p k i y [] e = refl
-first-as p k zero y (x ∷ l) e = ap (λ (b : Bool). cond b (At k) (firstOf p (k + 1) l)) e
-first-as p k (suc i) y (x ∷ l) e = ap (λ (f : Place). cond (p x) (At k) f) (first-as p (k + 1) i y l e)
-
--- so a number that neither had is seen as before
+-- a number that neither had is seen as before
 waits-as : (l : Places Waiting) (n i : ℕ) (y : Option Waiting) → numbered n y ≡ false → numbered n (get i l) ≡ false → waitsIn (set i y l) n ≡ waitsIn l n
 unfolding waitsIn
 waits-as l n i y a b = ap (λ (p : Place). contentIn (heldAt p (set i y l))) same ∙ go (waitingAt n l) refl
   where
     same : waitingAt n (set i y l) ≡ waitingAt n l
-    same = first-as (numbered n) 0 i y l (a ∙ sym b)
+    same = first-set (numbered n) i 0 y l (a ∙ sym b)
 
     go : (p : Place) → waitingAt n l ≡ p → contentIn (heldAt p (set i y l)) ≡ contentIn (heldAt p l)
     go (At j) e = ap contentIn (get-other i j y l (λ z. true-false (found-has (numbered n) j l e) (ap (λ (k : ℕ). numbered n (get k l)) z ∙ b)))
@@ -101,10 +95,6 @@ waits-as l n i y a b = ap (λ (p : Place). contentIn (heldAt p (set i y l))) sam
 -- the lowest free place is one of them, and free
 free-below : {A : Type 0} (l : Places A) (i : ℕ) → lowestFree l ≡ At i → i < length l
 free-below l i e = let h : i < 0 + length l = found-below isFree 0 i l e in omega arith
-
-is-free : {A : Type 0} (o : Option A) → isFree o ≡ true → o ≡ none
-is-free none e = refl
-is-free (some a) e = absurd (true-false e refl)
 
 free-none : {A : Type 0} (l : Places A) (i : ℕ) → lowestFree l ≡ At i → get i l ≡ none
 free-none l i e = is-free (get i l) (found-has isFree i l e)

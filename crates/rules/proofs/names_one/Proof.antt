@@ -5,9 +5,10 @@ use Rattle.deeds.specs.Message.{messageOf}
 use Rattle.deeds.specs.Deeds.{Key}
 use Rattle.rules.specs.Answers.{isAcceptance}
 use Rattle.rules.specs.Keys.{keyOf, KeyInside, old-inside, new-inside, new-key}
-use Rattle.rules.specs.Sending.{oneOf, sameSide, namesOne}
+use Rattle.rules.specs.Sending.{oneOf, namesOne}
 use Rattle.rules.proofs.names_one.Statement.{statement}
 use Rattle.rules.proofs.names_one.Tie as tie
+use Rattle.scan.specs.Bools.{sameBool}
 
 one-of-requires : tie.Need-one-of-requires
 one-of-requires c κs =
@@ -29,7 +30,7 @@ returns c =
     let n = messageOf (a .x .now) (a .q) in
     let x = c .before .before .before .before .before .before .before .is-acceptance .ensures ∙ ap isAcceptance (c .before .before .before .before .before .before .before .before .deed-of .ensures) in
     let y = c .before .before .before .before .before .is-acceptance2 .ensures ∙ ap isAcceptance (c .before .before .before .before .before .before .deed-of2 .ensures) in
-    let z = c .before .before .before .before .same-side .ensures ∙ (λ k. sameSide (x k) (y k)) in
+    let z = c .before .before .before .before .same-side .ensures ∙ (λ k. sameBool (x k) (y k)) in
     let u = c .before .before .one-of .ensures ∙ ap (λ (k : Key). oneOf k n) (ap (keyOf (a .w .now)) (c .before .before .before .old-parts .ensures)) in
     let v = c .one-of2 .ensures ∙ ap (λ (k : Key). oneOf k n) (ap (keyOf (a .w .now)) (c .before .new-parts .ensures) ∙ new-key (a .w .now) (a .r) (s .pre .0)) in
     λ k. z k && (u k || v k)

@@ -4,9 +4,10 @@ use Prim.Native.Nat.{_+_, _≤_}
 use native.Mathlib.Omega.{arith}
 use lib.ListN.{length}
 use borrow.Author.Tests.{eq-eqb, ne-eqb}
-use Rattle.unanswered.specs.Formed.{free-apart, other-free-apart, used-apart}
+use Rattle.unanswered.specs.Formed.{used-apart}
 use Rattle.unanswered.proofs.apart.Statement.{statement}
 use Rattle.unanswered.proofs.apart.Tie as tie
+use Rattle.places.specs.Bytes.{free-apart, other-free-apart}
 
 returns : tie.Need-returns
 returns c = let a = c .before .before .before .before .args in free-apart (a .a .now) (a .b .now) (eq-eqb _ _ (c .if1 .taken))

@@ -5,9 +5,9 @@ use mathlib.Core.List.{List}
 use Prim.Native.Nat.{ℕ, _+_, _-_, _*_, _≤_}
 use native.Mathlib.Omega.{arith}
 use lib.ListN.{length, take, drop}
-use Rattle.scan.specs.Bools.{decides-and, equals}
+use Rattle.scan.specs.Bools.{decides-and, equals, at-most}
 use Rattle.reader.specs.Reading.{Judged}
-use Rattle.places.specs.Bytes.{numberAt, at-most}
+use Rattle.places.specs.Bytes.{numberAt}
 use Rattle.unanswered.specs.Waiting.{waiting, place}
 use Rattle.unanswered.specs.Deciding.{sender-within, receiver-within, proper-is, no-answer, read-off}
 use Rattle.unanswered.specs.Formed.{lent, lent-long}

@@ -5,10 +5,11 @@ use Prim.Native.Nat.{ℕ, _≤_, _-_}
 use lib.Dec.{eqb}
 use borrow.Author.Tests.{eq-eqb, ne-eqb}
 use Rattle.places.specs.Search.{firstFrom, from-first, first-here, first-next, first-none}
-use Rattle.unanswered.specs.Waiting.{place, free}
+use Rattle.unanswered.specs.Waiting.{place}
 use Rattle.unanswered.specs.Formed.{first-at}
 use Rattle.unanswered.proofs.lowest_free.Statement.{statement}
 use Rattle.unanswered.proofs.lowest_free.Tie as tie
+use Rattle.places.specs.Bytes.{free}
 
 abbrev Inv-loop : tie.InvT-loop
 Inv-loop t i₀ i = (i ≤ 16) × (firstFrom (λ k. free (place k t)) 16 0 ≡ firstFrom (λ k. free (place k t)) (16 - i) i)

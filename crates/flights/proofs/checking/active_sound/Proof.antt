@@ -1,9 +1,9 @@
 -- `flights::checking::active_sound` meets its contract.
 use borrow.Author.Needs.{needs}
 use lib.ListN.{getD}
-use Rattle.scan.specs.Bools.{decides-and, decides-or}
+use Rattle.scan.specs.Bools.{decides-and, decides-or, at-most}
 use Rattle.fields.specs.Fields.{timed, in14}
-use Rattle.places.specs.Bytes.{at-most, at-most-on}
+use Rattle.places.specs.Bytes.{at-most-on}
 use Rattle.flights.specs.Checked.{on, empty-on}
 use Rattle.flights.proofs.checking.active_sound.Statement.{statement}
 use Rattle.flights.proofs.checking.active_sound.Tie as tie

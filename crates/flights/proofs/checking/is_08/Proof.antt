@@ -2,10 +2,10 @@
 use mathlib.Core.Path.{ap}
 use Rattle.fields.specs.Fields.{in08}
 use Rattle.fields.specs.declared.Found08.{Found08}
-use Rattle.flights.specs.Stretches.{told-by}
 use Rattle.flights.specs.Rules.{good-08}
 use Rattle.flights.proofs.checking.is_08.Statement.{statement}
 use Rattle.flights.proofs.checking.is_08.Tie as tie
+use Rattle.scan.specs.Theory.{told-by}
 
 returns : tie.Need-returns
 returns c = let a = c .before .before .before .args in told-by (in08 0) good-08 (a .t .now) _ _ (ap (λ (x : Found08). x .end) (c .before .field08 .ensures)) (c .whole .ensures)

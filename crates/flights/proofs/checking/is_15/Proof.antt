@@ -2,10 +2,10 @@
 use mathlib.Core.Path.{ap}
 use Rattle.fields.specs.Fields.{in15}
 use Rattle.fields.specs.declared.Found15.{Found15}
-use Rattle.flights.specs.Stretches.{told-by}
 use Rattle.flights.specs.Rules.{good-15}
 use Rattle.flights.proofs.checking.is_15.Statement.{statement}
 use Rattle.flights.proofs.checking.is_15.Tie as tie
+use Rattle.scan.specs.Theory.{told-by}
 
 returns : tie.Need-returns
 returns c = let a = c .before .before .before .args in told-by (in15 0) good-15 (a .t .now) _ _ (ap (λ (x : Found15). x .end) (c .before .field15 .ensures)) (c .whole .ensures)

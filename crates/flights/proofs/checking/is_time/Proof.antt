@@ -1,9 +1,9 @@
 -- `flights::checking::is_time` meets its contract.
 use Rattle.fields.specs.Fields.{timed}
-use Rattle.flights.specs.Stretches.{told-by}
 use Rattle.flights.specs.Rules.{good-time}
 use Rattle.flights.proofs.checking.is_time.Statement.{statement}
 use Rattle.flights.proofs.checking.is_time.Tie as tie
+use Rattle.scan.specs.Theory.{told-by}
 
 returns : tie.Need-returns
 returns c = let a = c .before .before .before .args in told-by timed good-time (a .t .now) _ _ (c .before .time .ensures) (c .whole .ensures)

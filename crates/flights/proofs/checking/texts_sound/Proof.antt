@@ -15,8 +15,8 @@ returns : tie.Need-returns
 returns c =
     (decides-and (decides-and (decides-and (decides-and (decides-and (decides-and (decides-and (decides-and (decides-and (on (run Alnum 2 7) (c .before .before .before .before .before .before .before .before .before .before .before .before .before .before .before .before .before .before .before .text-at .ensures) (c .before .before .before .before .before .before .before .before .before .before .before .before .before .before .before .before .before .before .is-aircraft .ensures))
     (on (opt (run Octal 4 4)) (c .before .before .before .before .before .before .before .before .before .before .before .before .before .before .before .before .before .text-at2 .ensures) (c .before .before .before .before .before .before .before .before .before .before .before .before .before .before .before .before .is-code .ensures)))
-    (on (run Letter 4 4) (c .before .before .before .before .before .before .before .before .before .before .before .before .before .before .before .text-at3 .ensures) (c .before .before .before .before .before .before .before .before .before .before .before .before .before .before .is-place .ensures)))
-    (on (run Letter 4 4) (c .before .before .before .before .before .before .before .before .before .before .before .before .before .text-at4 .ensures) (c .before .before .before .before .before .before .before .before .before .before .before .before .is-place2 .ensures)))
+    (on (run Letter 4 4) (c .before .before .before .before .before .before .before .before .before .before .before .before .before .before .before .text-at3 .ensures) (c .before .before .before .before .before .before .before .before .before .before .before .before .before .before .is-name .ensures)))
+    (on (run Letter 4 4) (c .before .before .before .before .before .before .before .before .before .before .before .before .before .text-at4 .ensures) (c .before .before .before .before .before .before .before .before .before .before .before .before .is-name2 .ensures)))
     (on (in08 0) (c .before .before .before .before .before .before .before .before .before .before .before .text-at5 .ensures) (c .before .before .before .before .before .before .before .before .before .before .is-08 .ensures)))
     (on (in09 0) (c .before .before .before .before .before .before .before .before .before .text-at6 .ensures) (c .before .before .before .before .before .before .before .before .is-09 .ensures)))
     (on (in10 0) (c .before .before .before .before .before .before .before .text-at7 .ensures) (c .before .before .before .before .before .before .is-10 .ensures)))

@@ -6,9 +6,10 @@ use lib.ListN.{length}
 use lib.Dec.{eqb}
 use borrow.Author.Tests.{eq-eqb, ne-eqb}
 use Rattle.places.specs.Search.{firstFrom, from-first, first-here, first-next, first-none}
-use Rattle.flights.specs.Table.{place, free, status-at}
+use Rattle.flights.specs.Table.{place, status-at}
 use Rattle.flights.proofs.finding.lowest_free.Statement.{statement}
 use Rattle.flights.proofs.finding.lowest_free.Tie as tie
+use Rattle.places.specs.Bytes.{free}
 
 abbrev Inv-loop : tie.InvT-loop
 Inv-loop table n i₀ i = (i ≤ n) × (firstFrom (λ k. free (place k table)) n 0 ≡ firstFrom (λ k. free (place k table)) (n - i) i)

@@ -9,9 +9,10 @@ use lib.ListN.{length}
 use lib.Dec.{eqb}
 use borrow.Author.Tests.{eq-eqb, ne-eqb}
 use Rattle.places.specs.Search.{countFrom, from-count, count-one, count-not, count-end}
-use Rattle.flights.specs.Table.{place, free, status-at}
+use Rattle.flights.specs.Table.{place, status-at}
 use Rattle.flights.proofs.finding.used.Statement.{statement}
 use Rattle.flights.proofs.finding.used.Tie as tie
+use Rattle.places.specs.Bytes.{free}
 
 abbrev Inv-loop : tie.InvT-loop
 Inv-loop table n count₀ i₀ count i = (i ≤ n) × (count ≤ i) × (countFrom (λ k. not (free (place k table))) n 0 ≡ count + countFrom (λ k. not (free (place k table))) (n - i) i)

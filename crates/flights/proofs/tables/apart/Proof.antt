@@ -2,9 +2,10 @@
 use borrow.Author.Needs.{needs}
 use borrow.Author.Tests.{eq-eqb, ne-eqb}
 use native.Mathlib.Omega.{arith}
-use Rattle.flights.specs.Formed.{free-apart, other-free-apart, word-apart, raw-apart}
+use Rattle.flights.specs.Formed.{word-apart, raw-apart}
 use Rattle.flights.proofs.tables.apart.Statement.{statement}
 use Rattle.flights.proofs.tables.apart.Tie as tie
+use Rattle.places.specs.Bytes.{free-apart, other-free-apart}
 
 returns : tie.Need-returns
 returns c = let a = c .before .before .before .before .args in free-apart (a .a .now) (a .b .now) (eq-eqb _ _ (c .if1 .taken))

@@ -2,8 +2,7 @@
 use borrow.Author.Needs.{needs}
 use Prim.Native.Nat.{_*_}
 use lib.ListN.{length}
-use Rattle.scan.specs.Bools.{equals}
-use Rattle.places.specs.Bytes.{at-most}
+use Rattle.scan.specs.Bools.{equals, at-most}
 use Rattle.flights.specs.Table.{places}
 use Rattle.flights.specs.Formed.{table-is}
 use Rattle.flights.proofs.tables.is_table.Statement.{statement}
