@@ -22,7 +22,7 @@ use Rattle.splice.specs.Splice.{splice}
 use Rattle.places.specs.declared.Place.{Place}
 use Rattle.places.specs.declared.Place.the-variants.{At, Nowhere}
 use Rattle.places.specs.Places.{Places, get, set, get-set, set-set}
-use Rattle.flights.specs.Flight.{Status, filed, active, offered, Flight, flightOf, recordOf, Sound, WellFormed}
+use Rattle.flights.specs.Flight.{active, offered, Flight, flightOf, recordOf, Sound, WellFormed}
 use Rattle.flights.specs.Table.{places, place}
 use Rattle.flights.specs.Formed.{TableFormed}
 use Rattle.flights.specs.Decoded.{readFlight, flightsIn, tableOf, table-back, flight-at, flights-many, read-record}
@@ -49,6 +49,7 @@ use Rattle.rules.specs.declared.Outcome.{Outcome}
 use Rattle.rules.specs.Calls.{Comes}
 use Rattle.hearing.specs.Hearing.{begun, Does, does-comes}
 use Rattle.places.specs.Bytes.{free}
+use Rattle.deeds.specs.Tests.{not-filed}
 
 -- WHAT IS DECIDED OF THE TWO
 
@@ -117,11 +118,6 @@ offer-may q l i x (At j) g c =
     let d = done-by (may Offers q (get j l) (other q l)) j i c in
     ap (λ (y : Option Flight). may Offers q y (other q l)) (sym g) ∙ ap (λ (k : ℕ). may Offers q (get k l) (other q l)) (sym (d .1)) ∙ d .0
 offer-may q l i x Nowhere g c = let z : _≡_ {A = ℕ} 0 1 = cc in absurd (omega arith)
-
-pub not-filed : (s : Status) → not (isFiled s) ≡ true → s ≡ active
-unfolding isFiled
-not-filed filed e = absurd (false≢true e)
-not-filed active e = refl
 
 -- so that is active
 may-active : (q : Message) (x : Flight) (y : Option Flight) → mayOn Offers q x y ≡ true → x .status ≡ active

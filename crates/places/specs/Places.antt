@@ -145,3 +145,10 @@ module _ {A : Type 0} where
     found-none i k [] e h = absurd (omega arith)
     found-none i zero (x ∷ l) e h = first-none (p x) (firstOf p (i + 1) l) i e .0
     found-none i (suc k) (x ∷ l) e h = found-none (i + 1) k l (first-none (p x) (firstOf p (i + 1) l) i e .1) (omega arith)
+
+-- what a place is asked for stays, so the same place is found
+pub first-set : {A : Type 0} (p : Option A → Bool) (i j : ℕ) (y : Option A) (l : Places A) → p y ≡ p (get i l) → firstOf p j (set i y l) ≡ firstOf p j l
+unfolding firstOf get set
+first-set p i j y [] e = refl
+first-set p zero j y (x ∷ l) e = ap (λ (b : Bool). cond b (At j) (firstOf p (j + 1) l)) e
+first-set p (suc i) j y (x ∷ l) e = ap (λ (f : Place). cond (p x) (At j) f) (first-set p i (j + 1) y l e)

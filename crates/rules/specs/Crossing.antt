@@ -2,8 +2,8 @@
 use mathlib.Core.Path.{_≡_, refl, sym, ap, _∙_}
 use mathlib.Core.Bool.{Bool, true, false, cond, not, _&&_, false≢true}
 use mathlib.Core.Option.{Option, none, some}
-use mathlib.Core.List.{List, [], _∷_}
-use Prim.Native.Nat.{ℕ, zero, suc, _+_, _<_}
+use mathlib.Core.List.{List, _∷_}
+use Prim.Native.Nat.{ℕ, _+_, _<_}
 use native.Mathlib.Omega.{arith}
 use lib.ListN.{length}
 use borrow.Author.Tests.{eq-eqb}
@@ -11,8 +11,7 @@ use Rattle.scan.specs.Bools.{and-l, and-r}
 use Rattle.message.specs.declared.Kind.the-variants.{Rla}
 use Rattle.places.specs.declared.Place.{Place}
 use Rattle.places.specs.declared.Place.the-variants.{At, Nowhere}
-use Rattle.places.specs.Bytes.{same, same-is}
-use Rattle.places.specs.Places.{Places, get, set, firstOf, get-set, found-below, found-has}
+use Rattle.places.specs.Places.{Places, get, get-set, found-below, found-has, first-set}
 use Rattle.flights.specs.Flight.{Flight, offered}
 use Rattle.flights.specs.Decoded.{keyed}
 use Rattle.deeds.specs.declared.Deed.{Deed}
@@ -25,30 +24,12 @@ use Rattle.deeds.specs.Applying.{whereIs, heldAt, flightUnder, other, orFree, h
 use Rattle.rules.specs.Answers.{isOffering, isAcceptance, isGood}
 use Rattle.rules.specs.Receiving.{settledSent, retires}
 use Rattle.rules.specs.Laws.{offers, accepts}
-
--- what a place is asked for stays, so the same place is found
-pub first-set : {A : Type 0} (p : Option A → Bool) (i j : ℕ) (y : Option A) (l : Places A) → p y ≡ p (get i l) → firstOf p j (set i y l) ≡ firstOf p j l
-unfolding firstOf get set
-first-set p i j y [] e = refl
-first-set p zero j y (x ∷ l) e = ap (λ (b : Bool). cond b (At j) (firstOf p (j + 1) l)) e
-first-set p (suc i) j y (x ∷ l) e = ap (λ (f : Place). cond (p x) (At j) f) (first-set p i (j + 1) y l e)
+use Rattle.deeds.specs.Tests.{same-key}
 
 -- a place with a key has a flight
 keyed-some : (a d e : List ℕ) (o : Option Flight) → keyed a d e o ≡ true → (x : Flight) × (o ≡ some x)
 keyed-some a d e none h = absurd (false≢true h)
 keyed-some a d e (some x) h = (x, refl)
-
--- keys that are the same are one
-pub same-key : (a b : Key) → sameKey a b ≡ true → a ≡ b
-same-key a b e =
-    let x = same (a .aircraft) (b .aircraft) in
-    let y = same (a .departure) (b .departure) in
-    let z = same (a .destination) (b .destination) in
-    let t = and-l (x && y) z e in
-    let p = same-is (a .aircraft) (b .aircraft) .yes (and-l x y t) in
-    let q = same-is (a .departure) (b .departure) .yes (and-r x y t) in
-    let r = same-is (a .destination) (b .destination) .yes (and-r (x && y) z e) in
-    λ k. record { aircraft = p k; departure = q k; destination = r k }
 
 -- THE OFFER was done where its flight stands
 

@@ -27,7 +27,7 @@ use Rattle.pair.specs.exchange.Halves.{Own, Near, Shared, Half, in-windo
 use Rattle.pair.specs.exchange.Learnt.{newest-yesed, newest-not-nil}
 use Rattle.compose.specs.Layout.{isNil}
 use Rattle.scan.specs.Bools.{both, and-yes}
-use Rattle.rules.specs.Crossing.{same-key as key-eq}
+use Rattle.deeds.specs.Tests.{same-key as key-eq}
 
 -- WHAT IS UNDER WAY CAN BE FOUND OUT
 

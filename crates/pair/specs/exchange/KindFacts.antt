@@ -13,8 +13,8 @@ use Rattle.pair.specs.kinds.Tools.{key?, key-yes, true-false, none-some,
 use Rattle.pair.specs.kinds.Kinds.{Content, own, near, messageOf, effect, takes, clash, Table, other, eff, put, grown}
 use Rattle.pair.specs.kinds.Views.{Applied, fails, full, stored}
 use Rattle.pair.specs.exchange.Laws.{law-place}
-use Rattle.rules.specs.Crossing.{same-key as key-eq}
 use Rattle.scan.specs.Bools.{or-l, or-r}
+use Rattle.deeds.specs.Tests.{same-key as key-eq}
 
 -- A CONTENT IS ONE OF THE TWO
 

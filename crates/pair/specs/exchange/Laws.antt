@@ -20,10 +20,10 @@ use Rattle.rules.specs.Answers.{isAcceptance, isOffering, proper}
 use Rattle.rules.specs.Receiving as r
 use Rattle.pair.specs.kinds.Tools.{guard-yes, true-false, none-some, some-inj, key-yes}
 use Rattle.pair.specs.kinds.Kinds.{Content, orderly, effect, close, retires, Dead, messageOf, answerKind, properTo, againTo}
-use Rattle.rules.specs.Crossing.{same-key as key-eq}
 use Rattle.rules.specs.Laws.{accepts as accepts-is, offers as offers-is}
 use Rattle.scan.specs.Bools.{and-yes}
 use Rattle.scan.specs.Theory.{good-a as first-yes}
+use Rattle.deeds.specs.Tests.{same-key as key-eq}
 
 -- WHICH DEED IT IS
 

@@ -31,7 +31,7 @@ use Rattle.pair.specs.views.Tables.{Single}
 use Rattle.pair.specs.keeping.Said.{Says, Stated, stated}
 use Rattle.pair.specs.keeping.Becoming.{Under, becomes-stated}
 use Rattle.perform.specs.Ready.{done-by, done-at}
-use Rattle.rules.specs.Crossing.{same-key as key-eq}
+use Rattle.deeds.specs.Tests.{same-key as key-eq}
 
 -- ONE PLACE OF A KEY
 

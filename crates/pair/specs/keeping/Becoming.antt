@@ -26,7 +26,7 @@ use Rattle.deeds.specs.Deeds.{Key, deedOf, orHeld, old, new, isFiled, isCalm, i
 use Rattle.perform.specs.Performed.{offered-sound, accepted-sound, none-sound}
 use Rattle.pair.specs.keeping.Said.{Timely, Says, Stated}
 use Rattle.places.specs.Places.{isFree as isNone}
-use Rattle.hearing.specs.Crosses.{not-filed as is-active}
+use Rattle.deeds.specs.Tests.{not-filed as is-active}
 
 -- free, or with a flight of this key
 abbrev pub Under : Key → Option Flight → Type 0

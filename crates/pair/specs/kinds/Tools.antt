@@ -15,7 +15,7 @@ use Rattle.places.specs.Places.{Places, get, isFree}
 use Rattle.deeds.specs.Message.{Message}
 use Rattle.deeds.specs.Deeds.{Key, sameKey, orHeld, old, changedKey, amended}
 use Rattle.places.specs.Bytes.{same-is}
-use Rattle.rules.specs.Crossing.{same-key as key-eq}
+use Rattle.deeds.specs.Tests.{same-key as key-eq}
 
 -- x stands where the test passes
 unfoldable pub guard : {A : Type 0} → Bool → Option A → Option A

@@ -32,8 +32,8 @@ use Rattle.pair.specs.kinds.Kinds as kind
 use Rattle.pair.specs.kinds.Kinds.{own, near, messageOf, orderly, effect, close, isYes, answerKind, properTo, Table, eff, put, grown}
 use Rattle.pair.specs.kinds.Views.{Applied, fails, full, stored}
 use Rattle.pair.specs.kinds.Ends.{byKey}
-use Rattle.rules.specs.Crossing.{same-key as key-eq}
 use Rattle.scan.specs.Bools.{and-yes}
+use Rattle.deeds.specs.Tests.{same-key as key-eq}
 
 -- PLACES
 

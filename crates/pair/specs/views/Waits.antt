@@ -12,7 +12,7 @@ use Rattle.pair.specs.kinds.Tools.{get-below, upd, upd-same, upd-other, 
 use Rattle.scan.specs.Bools.{neither}
 use Rattle.places.specs.declared.Place.{Place}
 use Rattle.places.specs.declared.Place.the-variants.{At, Nowhere}
-use Rattle.places.specs.Places.{Places, get, set, isFree, get-set, get-other, found-below, found-has, found-none}
+use Rattle.places.specs.Places.{Places, get, set, isFree, get-set, get-other, found-below, found-has, found-none, first-set}
 use Rattle.unanswered.specs.Waiting.{Waiting}
 use Rattle.deeds.specs.Message.{Message}
 use Rattle.deeds.specs.declared.Deed.{Deed}
@@ -26,7 +26,6 @@ use Rattle.rules.specs.Receiving.{waitingAt}
 use Rattle.rules.specs.Sending.{anyWaiting, countWaiting}
 use Rattle.pair.specs.kinds.Kinds.{Content, own, near, contentOf, takes}
 use Rattle.pair.specs.kinds.Ends.{WaitingFormed, contentIn, waitsIn}
-use Rattle.rules.specs.Crossing.{first-set}
 
 -- A PLACE WITH A NUMBER
 
