@@ -9,7 +9,8 @@ use Rattle.scan.specs.Scanner.{scanAt}
 use Rattle.types.specs.declared.Scanned.{Scanned}
 use Rattle.types.specs.Messages.{fpl, cpl, est, chg, cnl, rti, rta, rla, lam, lrm, message}
 use Rattle.types.specs.Scanned.{partsOf, scannedBy}
-use Rattle.types.specs.Arms.{Arm, led-lit, led-seq, altOf, keysOf, Misses, all-miss, missed, picked}
+use Rattle.types.specs.Arms.{Arm, led-lit, led-seq, altOf, keysOf, Misses, all-miss, missed, picked, once, armOf}
+use mathlib.Core.Bool.{true}
 
 unfoldable pub fplArm : Arm
 unfolding fpl
@@ -93,85 +94,16 @@ pub record Typed (s : List ℕ) : Type 0 where
 pub typed : (s : List ℕ) → 4 ≤ length s → getD s 0 0 ≡ 40 → getD s 1 0 < 256 → getD s 2 0 < 256 → getD s 3 0 < 256 → Typed s
 typed s h o a b c = record { long = h; opens = o; one = a; two = b; three = c }
 
-pub fpl-picked : (s : List ℕ) (q : Scanned) → Typed s → lettersOf s ≡ 4608076 → q ≡ scannedBy fpl s → q ≡ scannedBy message s
-unfolding fplArm cplArm estArm chgArm cnlArm rtiArm rtaArm rlaArm lamArm lrmArm otherArms
-fpl-picked s q t w e =
-    let x : getD s 1 0 ≡ 70 = omega arith in
-    let y : getD s 2 0 ≡ 80 = omega arith in
-    let z : getD s 3 0 ≡ 76 = omega arith in
-    e ∙ picked 70 80 76 s (take4 s (t .long) ∙ rw (t .opens, x, y, z)) fplArm otherArms refl ∙ ap {B = Scanned} (λ (g : G). scannedBy g s) message-arms
-
-pub cpl-picked : (s : List ℕ) (q : Scanned) → Typed s → lettersOf s ≡ 4411468 → q ≡ scannedBy cpl s → q ≡ scannedBy message s
-unfolding fplArm cplArm estArm chgArm cnlArm rtiArm rtaArm rlaArm lamArm lrmArm otherArms
-cpl-picked s q t w e =
-    let x : getD s 1 0 ≡ 67 = omega arith in
-    let y : getD s 2 0 ≡ 80 = omega arith in
-    let z : getD s 3 0 ≡ 76 = omega arith in
-    e ∙ picked 67 80 76 s (take4 s (t .long) ∙ rw (t .opens, x, y, z)) fplArm otherArms refl ∙ ap {B = Scanned} (λ (g : G). scannedBy g s) message-arms
-
-pub est-picked : (s : List ℕ) (q : Scanned) → Typed s → lettersOf s ≡ 4543316 → q ≡ scannedBy est s → q ≡ scannedBy message s
-unfolding fplArm cplArm estArm chgArm cnlArm rtiArm rtaArm rlaArm lamArm lrmArm otherArms
-est-picked s q t w e =
-    let x : getD s 1 0 ≡ 69 = omega arith in
-    let y : getD s 2 0 ≡ 83 = omega arith in
-    let z : getD s 3 0 ≡ 84 = omega arith in
-    e ∙ picked 69 83 84 s (take4 s (t .long) ∙ rw (t .opens, x, y, z)) fplArm otherArms refl ∙ ap {B = Scanned} (λ (g : G). scannedBy g s) message-arms
-
-pub chg-picked : (s : List ℕ) (q : Scanned) → Typed s → lettersOf s ≡ 4409415 → q ≡ scannedBy chg s → q ≡ scannedBy message s
-unfolding fplArm cplArm estArm chgArm cnlArm rtiArm rtaArm rlaArm lamArm lrmArm otherArms
-chg-picked s q t w e =
-    let x : getD s 1 0 ≡ 67 = omega arith in
-    let y : getD s 2 0 ≡ 72 = omega arith in
-    let z : getD s 3 0 ≡ 71 = omega arith in
-    e ∙ picked 67 72 71 s (take4 s (t .long) ∙ rw (t .opens, x, y, z)) fplArm otherArms refl ∙ ap {B = Scanned} (λ (g : G). scannedBy g s) message-arms
-
-pub cnl-picked : (s : List ℕ) (q : Scanned) → Typed s → lettersOf s ≡ 4410956 → q ≡ scannedBy cnl s → q ≡ scannedBy message s
-unfolding fplArm cplArm estArm chgArm cnlArm rtiArm rtaArm rlaArm lamArm lrmArm otherArms
-cnl-picked s q t w e =
-    let x : getD s 1 0 ≡ 67 = omega arith in
-    let y : getD s 2 0 ≡ 78 = omega arith in
-    let z : getD s 3 0 ≡ 76 = omega arith in
-    e ∙ picked 67 78 76 s (take4 s (t .long) ∙ rw (t .opens, x, y, z)) fplArm otherArms refl ∙ ap {B = Scanned} (λ (g : G). scannedBy g s) message-arms
-
-pub rti-picked : (s : List ℕ) (q : Scanned) → Typed s → lettersOf s ≡ 5395529 → q ≡ scannedBy rti s → q ≡ scannedBy message s
-unfolding fplArm cplArm estArm chgArm cnlArm rtiArm rtaArm rlaArm lamArm lrmArm otherArms
-rti-picked s q t w e =
-    let x : getD s 1 0 ≡ 82 = omega arith in
-    let y : getD s 2 0 ≡ 84 = omega arith in
-    let z : getD s 3 0 ≡ 73 = omega arith in
-    e ∙ picked 82 84 73 s (take4 s (t .long) ∙ rw (t .opens, x, y, z)) fplArm otherArms refl ∙ ap {B = Scanned} (λ (g : G). scannedBy g s) message-arms
-
-pub rta-picked : (s : List ℕ) (q : Scanned) → Typed s → lettersOf s ≡ 5395521 → q ≡ scannedBy rta s → q ≡ scannedBy message s
-unfolding fplArm cplArm estArm chgArm cnlArm rtiArm rtaArm rlaArm lamArm lrmArm otherArms
-rta-picked s q t w e =
-    let x : getD s 1 0 ≡ 82 = omega arith in
-    let y : getD s 2 0 ≡ 84 = omega arith in
-    let z : getD s 3 0 ≡ 65 = omega arith in
-    e ∙ picked 82 84 65 s (take4 s (t .long) ∙ rw (t .opens, x, y, z)) fplArm otherArms refl ∙ ap {B = Scanned} (λ (g : G). scannedBy g s) message-arms
-
-pub rla-picked : (s : List ℕ) (q : Scanned) → Typed s → lettersOf s ≡ 5393473 → q ≡ scannedBy rla s → q ≡ scannedBy message s
-unfolding fplArm cplArm estArm chgArm cnlArm rtiArm rtaArm rlaArm lamArm lrmArm otherArms
-rla-picked s q t w e =
-    let x : getD s 1 0 ≡ 82 = omega arith in
-    let y : getD s 2 0 ≡ 76 = omega arith in
-    let z : getD s 3 0 ≡ 65 = omega arith in
-    e ∙ picked 82 76 65 s (take4 s (t .long) ∙ rw (t .opens, x, y, z)) fplArm otherArms refl ∙ ap {B = Scanned} (λ (g : G). scannedBy g s) message-arms
-
-pub lam-picked : (s : List ℕ) (q : Scanned) → Typed s → lettersOf s ≡ 4997453 → q ≡ scannedBy lam s → q ≡ scannedBy message s
-unfolding fplArm cplArm estArm chgArm cnlArm rtiArm rtaArm rlaArm lamArm lrmArm otherArms
-lam-picked s q t w e =
-    let x : getD s 1 0 ≡ 76 = omega arith in
-    let y : getD s 2 0 ≡ 65 = omega arith in
-    let z : getD s 3 0 ≡ 77 = omega arith in
-    e ∙ picked 76 65 77 s (take4 s (t .long) ∙ rw (t .opens, x, y, z)) fplArm otherArms refl ∙ ap {B = Scanned} (λ (g : G). scannedBy g s) message-arms
-
-pub lrm-picked : (s : List ℕ) (q : Scanned) → Typed s → lettersOf s ≡ 5001805 → q ≡ scannedBy lrm s → q ≡ scannedBy message s
-unfolding fplArm cplArm estArm chgArm cnlArm rtiArm rtaArm rlaArm lamArm lrmArm otherArms
-lrm-picked s q t w e =
-    let x : getD s 1 0 ≡ 76 = omega arith in
-    let y : getD s 2 0 ≡ 82 = omega arith in
-    let z : getD s 3 0 ≡ 77 = omega arith in
-    e ∙ picked 76 82 77 s (take4 s (t .long) ∙ rw (t .opens, x, y, z)) fplArm otherArms refl ∙ ap {B = Scanned} (λ (g : G). scannedBy g s) message-arms
+-- a text is scanned as the message whose letters it has
+pub picked-by : (a b c : ℕ) → a < 256 → b < 256 → c < 256 → once a b c fplArm otherArms ≡ true → (s : List ℕ) (q : Scanned) → Typed s → lettersOf s ≡ lettersAs a b c → q ≡ scannedBy (armOf a b c fplArm otherArms) s → q ≡ scannedBy message s
+picked-by a b c k l m o s q t w e =
+    let h = t .one in
+    let i = t .two in
+    let j = t .three in
+    let x : getD s 1 0 ≡ a = omega arith in
+    let y : getD s 2 0 ≡ b = omega arith in
+    let z : getD s 3 0 ≡ c = omega arith in
+    e ∙ picked a b c s (take4 s (t .long) ∙ rw (t .opens, x, y, z)) fplArm otherArms o ∙ ap {B = Scanned} (λ (g : G). scannedBy g s) message-arms
 
 -- no type begins so
 abbrev pub unknownOf : List ℕ → Scanned
