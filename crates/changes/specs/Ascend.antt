@@ -25,9 +25,8 @@ use Rattle.fields.specs.declared.Found10.{Found10}
 use Rattle.fields.specs.declared.Found13.{Found13}
 use Rattle.fields.specs.declared.Found15.{Found15}
 use Rattle.fields.specs.declared.Found16.{Found16}
-use Rattle.fields.specs.declared.Found18.{Found18}
 use Rattle.fields.specs.Fields.{_─_, nothing18, three18, four18, g07, g08, g09, g10, g13, g15, g16}
-use Rattle.fields.specs.Found.{found07, same07, found08, same08, found09, same09, found10, same10, found13, same13, found15, same15, found16, same16, found18, same18}
+use Rattle.fields.specs.Found.{found07, found08, found09, found10, found13, found15, found16, same07}
 use Rattle.changes.specs.declared.Plan.{Plan}
 use Rattle.changes.specs.declared.Found22.{Found22}
 use Rattle.changes.specs.declared.FoundTail.{FoundTail}
@@ -131,17 +130,15 @@ module _ (key : List ℕ) (x next : G) (s : List ℕ) (r a : Scan) (pa : a ≡ s
       go (inl t) = let l = ltb-true (o .end .next) (a .next) t in number-stop e o q po l (h .1 l)
       go (inr t) = let l = ltb-false (o .end .next) (a .next) t in h .0 l ∙ number-past e o po l
 
+-- a field that is found after its key is found there as part of field 22
+pub is-amended : {F : Type 0} (found : ℕ → List ℕ → Scan → F) → ((s : List ℕ) (r : Scan) → found n.amended s r ≡ found 0 s r) → (key s : List ℕ) (r a : Scan) (f : F) → a ≡ scan (lit key) s r → f ≡ found 0 s a → f ≡ found n.amended s (scan (lit key) s r)
+is-amended found same key s r a f e h = h ∙ ap (λ (x : Scan). found 0 s x) e ∙ sym (same s (scan (lit key) s r))
+
 abbrev pub key07 : List ℕ
 key07 = 48 ∷ 55 ∷ 47 ∷ []
 
-pub is07 : (s : List ℕ) (r a : Scan) (f : Found07) → a ≡ scan (lit key07) s r → f ≡ found07 0 s a → f ≡ found07 n.amended s (scan (lit key07) s r)
-is07 s r a f e h = h ∙ ap {B = Found07} (λ (x : Scan). found07 0 s x) e ∙ sym (same07 s (scan (lit key07) s r))
-
 abbrev pub key08 : List ℕ
 key08 = 48 ∷ 56 ∷ 47 ∷ []
-
-pub is08 : (s : List ℕ) (r a : Scan) (f : Found08) → a ≡ scan (lit key08) s r → f ≡ found08 0 s a → f ≡ found08 n.amended s (scan (lit key08) s r)
-is08 s r a f e h = h ∙ ap {B = Found08} (λ (x : Scan). found08 0 s x) e ∙ sym (same08 s (scan (lit key08) s r))
 
 pub adds08 : (s : List ℕ) (r : Scan) (f : Found08) → f ≡ found08 n.amended s (scan (lit key08) s r) → Adds key08 (g08 n.amended) s r (with08 f)
 unfolding found22 among occurs spanBy
@@ -150,18 +147,12 @@ adds08 s r f h t = ap {B = Found22} (λ (x : Found08). with08 x (found22 t s (sc
 abbrev pub key09 : List ℕ
 key09 = 48 ∷ 57 ∷ 47 ∷ []
 
-pub is09 : (s : List ℕ) (r a : Scan) (f : Found09) → a ≡ scan (lit key09) s r → f ≡ found09 0 s a → f ≡ found09 n.amended s (scan (lit key09) s r)
-is09 s r a f e h = h ∙ ap {B = Found09} (λ (x : Scan). found09 0 s x) e ∙ sym (same09 s (scan (lit key09) s r))
-
 pub adds09 : (s : List ℕ) (r : Scan) (f : Found09) → f ≡ found09 n.amended s (scan (lit key09) s r) → Adds key09 (g09 n.amended) s r (with09 f)
 unfolding found22 among occurs spanBy
 adds09 s r f h t = ap {B = Found22} (λ (x : Found09). with09 x (found22 t s (scan (g09 n.amended) s (scan (lit key09) s r)))) h
 
 abbrev pub key10 : List ℕ
 key10 = 49 ∷ 48 ∷ 47 ∷ []
-
-pub is10 : (s : List ℕ) (r a : Scan) (f : Found10) → a ≡ scan (lit key10) s r → f ≡ found10 0 s a → f ≡ found10 n.amended s (scan (lit key10) s r)
-is10 s r a f e h = h ∙ ap {B = Found10} (λ (x : Scan). found10 0 s x) e ∙ sym (same10 s (scan (lit key10) s r))
 
 pub adds10 : (s : List ℕ) (r : Scan) (f : Found10) → f ≡ found10 n.amended s (scan (lit key10) s r) → Adds key10 (g10 n.amended) s r (with10 f)
 unfolding found22 among occurs spanBy
@@ -170,18 +161,12 @@ adds10 s r f h t = ap {B = Found22} (λ (x : Found10). with10 x (found22 t s (sc
 abbrev pub key13 : List ℕ
 key13 = 49 ∷ 51 ∷ 47 ∷ []
 
-pub is13 : (s : List ℕ) (r a : Scan) (f : Found13) → a ≡ scan (lit key13) s r → f ≡ found13 0 s a → f ≡ found13 n.amended s (scan (lit key13) s r)
-is13 s r a f e h = h ∙ ap {B = Found13} (λ (x : Scan). found13 0 s x) e ∙ sym (same13 s (scan (lit key13) s r))
-
 pub adds13 : (s : List ℕ) (r : Scan) (f : Found13) → f ≡ found13 n.amended s (scan (lit key13) s r) → Adds key13 (g13 n.amended) s r (with13 f)
 unfolding found22 among occurs spanBy
 adds13 s r f h t = ap {B = Found22} (λ (x : Found13). with13 x (found22 t s (scan (g13 n.amended) s (scan (lit key13) s r)))) h
 
 abbrev pub key15 : List ℕ
 key15 = 49 ∷ 53 ∷ 47 ∷ []
-
-pub is15 : (s : List ℕ) (r a : Scan) (f : Found15) → a ≡ scan (lit key15) s r → f ≡ found15 0 s a → f ≡ found15 n.amended s (scan (lit key15) s r)
-is15 s r a f e h = h ∙ ap {B = Found15} (λ (x : Scan). found15 0 s x) e ∙ sym (same15 s (scan (lit key15) s r))
 
 pub adds15 : (s : List ℕ) (r : Scan) (f : Found15) → f ≡ found15 n.amended s (scan (lit key15) s r) → Adds key15 (g15 n.amended) s r (with15 f)
 unfolding found22 among occurs spanBy
@@ -190,18 +175,12 @@ adds15 s r f h t = ap {B = Found22} (λ (x : Found15). with15 x (found22 t s (sc
 abbrev pub key16 : List ℕ
 key16 = 49 ∷ 54 ∷ 47 ∷ []
 
-pub is16 : (s : List ℕ) (r a : Scan) (f : Found16) → a ≡ scan (lit key16) s r → f ≡ found16 0 s a → f ≡ found16 n.amended s (scan (lit key16) s r)
-is16 s r a f e h = h ∙ ap {B = Found16} (λ (x : Scan). found16 0 s x) e ∙ sym (same16 s (scan (lit key16) s r))
-
 pub adds16 : (s : List ℕ) (r : Scan) (f : Found16) → f ≡ found16 n.amended s (scan (lit key16) s r) → Adds key16 (g16 n.amended) s r (with16 f)
 unfolding found22 among occurs spanBy
 adds16 s r f h t = ap {B = Found22} (λ (x : Found16). with16 x (found22 t s (scan (g16 n.amended) s (scan (lit key16) s r)))) h
 
 abbrev pub key18 : List ℕ
 key18 = 49 ∷ 56 ∷ 47 ∷ []
-
-pub is18 : (s : List ℕ) (r a : Scan) (f : Found18) → a ≡ scan (lit key18) s r → f ≡ found18 0 s a → f ≡ found18 n.amended s (scan (lit key18) s r)
-is18 s r a f e h = h ∙ ap {B = Found18} (λ (x : Scan). found18 0 s x) e ∙ sym (same18 s (scan (lit key18) s r))
 
 -- 07 stands alone
 pub alone07 : (s : List ℕ) (r : Scan) (f : Found07) → f ≡ found07 n.amended s (scan (lit key07) s r) → with07 f (nothing22 (f .end)) ≡ found22 (lit key07 ⨾ g07 n.amended) s r
@@ -215,7 +194,7 @@ named22 s r = refl
 -- 07 and its parts
 pub with-07 : (s : List ℕ) (r a : Scan) (f : Found07) (p : Plan) → a ≡ scan (lit key07) s r → f ≡ found07 0 s a → p ≡ noPlan → record { end = f .end; plan = put n.code (f .code) (put n.aircraft (f .aircraft) p) } ≡ found22 (lit key07 ⨾ g07 n.amended) s r
 unfolding nothing22
-with-07 s r a f p pa pf pp = rw pp (alone07 s r f (is07 s r a f pa pf))
+with-07 s r a f p pa pf pp = rw pp (alone07 s r f (is-amended found07 same07 key07 s r a f pa pf))
 
 pub named-tail : (s : List ℕ) (r : Scan) → foundTail inChanged s r ≡ foundTail changed s r
 unfolding foundTail among spanBy

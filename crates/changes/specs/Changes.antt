@@ -4,7 +4,7 @@ use Prim.Native.Nat.{ℕ}
 use Rattle.scan.specs.Grammar.{G, alt, field}
 use Rattle.scan.specs.Texts.{_⨾_, byte, opt, lit}
 use Rattle.fields.specs.Names.{amended, indicator, other}
-use Rattle.fields.specs.Fields.{_─_, g07, g08, g09, g10, g13, g15, g16, nothing18, three18, four18, g18}
+use Rattle.fields.specs.Fields.{_─_, g07, g08, g09, g10, g13, g15, g16, nothing18, three18, four18, g18, fieldRules}
 
 -- 22: 07, 08, 09, 10, 13, 15, 16 or 18, "/", and that field. Numbers ascend, none twice: each says what may stand from its number on
 unfoldable pub from18 : G
@@ -44,3 +44,8 @@ inChanged = alt changes (alt (nothing18 0 ─ changes) (alt (three18 0 ─ chang
 
 abbrev pub changed : G
 changed = field (indicator ∷ other ∷ amendedParts) inChanged
+
+-- `unfolding changeRules` opens these rules and those of every field
+unfoldable pub changeRules : Unit {0}
+unfolding fieldRules from18 from16 from15 from13 from10 from09 from08 inChanges inChanged
+changeRules = tt

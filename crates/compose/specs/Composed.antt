@@ -4,7 +4,7 @@ use mathlib.Core.List.{List, [], _∷_}
 use Prim.Native.Nat.{ℕ}
 use Rattle.scan.specs.Scanner.{among, occurs}
 use Rattle.scan.specs.Tests.{names}
-use Rattle.fields.specs.Fields.{inNumbered, in07, in08, counted, in09, in10, timed, in13, in13o, level3, level4, levelled, pointed, in14, after15, in15, alternates, in16, inThree18, inFour18, in18}
+use Rattle.fields.specs.Fields.{fieldRules}
 use Rattle.message.specs.declared.Kind.{Kind}
 use Rattle.message.specs.declared.Kind.the-variants.{None, Fpl, Cpl, Est, Chg, Cnl, Rti, Rta, Rla, Lam, Lrm}
 use Rattle.message.specs.declared.Record.{Record}
@@ -42,7 +42,7 @@ unfoldable pub composed : List ℕ → Record → List ℕ
 composed d r = laid (orderOf (r .kind)) (sizes r) (bytesIn d r)
 
 laid-blocks : (d : List ℕ) (r : Record) (a b c : ℕ) → laid (ordered a b c) (sizes r) (bytesIn d r) ≡ join (blocks (40 ∷ a ∷ b ∷ c ∷ []) d (r .parts))
-unfolding filled only isNil takesFirst first laid ordered among occurs names inNumbered in07 in08 counted in09 in10 timed in13 in13o level3 level4 levelled pointed in14 after15 in15 alternates in16 inThree18 inFour18 in18
+unfolding filled only isNil takesFirst first laid ordered among occurs names fieldRules
 laid-blocks d r a b c = refl
 
 order-blocks : (d : List ℕ) (r : Record) (k : Kind) → laid (orderOf k) (sizes r) (bytesIn d r) ≡ join (blocks (opening k) d (r .parts))

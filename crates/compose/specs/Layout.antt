@@ -613,3 +613,8 @@ parts-are (field ns g) t f l e w cs r m s i =
     let fg = and-l (plain g) (covers ns (names g)) f in
     let c = covers-sound ns (names g) (and-r (plain g) (covers ns (names g)) f) in
     λ n k. or-empty g fg l e w cs r (parts-are g t fg l e w cs r (λ o j. m o (c o j)) (λ o j. s o (c o j)) i) n (s n k) (m n k)
+
+-- `unfolding layoutTest` opens all that `told` and `laid` are made of
+unfoldable pub layoutTest : Unit {0}
+unfolding filled only isNil takesFirst first laid sure single pieces sameBool samePieces even told
+layoutTest = tt

@@ -14,10 +14,10 @@ use Rattle.scan.specs.Grammar.{placeOf, sizeOf, Span, G, eps, Derives, Part, no
 use Rattle.scan.specs.Texts.{byte, lit}
 use Rattle.scan.specs.declared.Class.the-variants.{Byte}
 use Rattle.scan.specs.Scanner.{among, occurs}
-use Rattle.scan.specs.Tests.{nullable, clear, apart, fixed, heads, differ, offLeaf, off, names, strange, covers, plain}
+use Rattle.scan.specs.Tests.{names, covers, plain, plainTest}
 use Rattle.scan.specs.Parts.{named, covers-sound, reads-derives, part-within}
 use Rattle.scan.specs.Bounds.{derives-short}
-use Rattle.fields.specs.Fields.{inNumbered, in07, in08, counted, in09, in10, hour, minute, timed, in13, in13o, level3, level4, levelled, bearing, bearingFrom, degrees, minutes, pointed, in14, after15, in15, alternates, in16, inThree18, inFour18, in18}
+use Rattle.fields.specs.Fields.{in07, in08, in09, in10, in13, in13o, in14, after15, in15, alternates, in16, inThree18, inFour18, in18, fieldRules}
 use Rattle.types.specs.Messages.{message, fpl, cpl, est, chg, cnl, rti, rta, rla, lam, lrm}
 use Rattle.types.specs.Sound.{message-longest}
 use Rattle.types.specs.Picking.{lettersAs, lettersOf}
@@ -35,11 +35,11 @@ use Rattle.compose.specs.Composed.{orderOf}
 -- The order passes the computed tests
 
 ordered-told : (a b c : ℕ) → told (ordered a b c) ≡ true
-unfolding told ordered only isNil sure single pieces sameBool samePieces even among occurs names first inNumbered in07 in08 counted in09 in10 timed in13 in13o level3 level4 levelled pointed in14 after15 in15 alternates in16 inThree18 inFour18 in18
+unfolding told ordered only isNil sure single pieces sameBool samePieces even among occurs names first fieldRules
 ordered-told a b c = refl
 
 pub ordered-plain : (a b c : ℕ) → plain (ordered a b c) ≡ true
-unfolding among occurs nullable clear apart fixed heads differ offLeaf off names strange covers plain ordered inNumbered in07 in08 counted in09 in10 hour minute timed in13 in13o level3 level4 levelled bearing bearingFrom degrees minutes pointed in14 after15 in15 alternates in16 inThree18 inFour18 in18
+unfolding ordered fieldRules plainTest
 ordered-plain a b c = refl
 
 -- the names of all parts

@@ -2,9 +2,7 @@
 use mathlib.Core.Path.{_≡_, refl, subst}
 use mathlib.Core.List.{List, [], _∷_}
 use Rattle.scan.specs.Scanner.{runAt, runScan, wordsAt, wordsScan, longer, leads, among, occurs, between, spanBy, between16}
-use Rattle.fields.specs.Fields.{inNumbered, in07, in08, counted, in09, in10, hour, minute, timed, in13, in13o, level3, level4, levelled, bearing, bearingFrom, degrees, minutes, pointed, in14, after15, in15, alternates, in16, inThree18, inFour18, in18}
-use Rattle.changes.specs.Changes.{from18, from16, from15, from13, from10, from09, from08, inChanges, inChanged}
-use Rattle.types.specs.Messages.{fpl, cpl, est, chg, cnl, rti, rta, rla, lam, lrm, message}
+use Rattle.types.specs.Messages.{messageRules}
 use Rattle.reader.specs.Reading.{hyphens}
 use Rattle.reader.specs.Reader.{verdict, Ruled, verdict-right}
 use Rattle.message.specs.Record.{kindOf, figure}
@@ -29,7 +27,7 @@ Computes [] = Unit
 Computes (e ∷ es) = Computes1 e × Computes es
 
 computed : Computes table
-unfolding runAt runScan wordsAt wordsScan longer inNumbered in07 in08 counted in09 in10 hour minute timed in13 in13o level3 level4 levelled bearing bearingFrom degrees minutes pointed in14 after15 in15 alternates in16 inThree18 inFour18 in18 from18 from16 from15 from13 from10 from09 from08 inChanges inChanged fpl cpl est chg cnl rti rta rla lam lrm message hyphens verdict standingAt leads among occurs between spanBy between16 readRecord kindOf figure same deedBy isOffering proper isAnswer numbered get firstOf empty referred settle hear receiveBy
+unfolding runAt runScan wordsAt wordsScan longer hyphens verdict standingAt leads among occurs between spanBy between16 readRecord kindOf figure same deedBy isOffering proper isAnswer numbered get firstOf empty referred settle hear receiveBy messageRules
 computed = (refl, (refl, (refl, (refl, (refl, (refl, (refl, (refl, (refl, (refl, (refl, (refl, tt))))))))))))
 
 by-computing1 : (e : Example) → Computes1 e → Holds1 e

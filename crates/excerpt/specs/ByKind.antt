@@ -9,18 +9,17 @@ use Rattle.scan.specs.declared.Class.the-variants.{Letter, Octal, Alnum}
 use Rattle.scan.specs.Grammar.{sizeOf, G, run, part, Derives}
 use Rattle.scan.specs.Texts.{opt}
 use Rattle.scan.specs.Scanner.{among, occurs}
-use Rattle.scan.specs.Tests.{nullable, clear, apart, fixed, heads, differ, offLeaf, off, names, strange, covers, plain}
+use Rattle.scan.specs.Tests.{nullable, names, strange, covers, plain, plainTest}
 use Rattle.fields.specs.Names as n
-use Rattle.fields.specs.Fields.{inNumbered, in07, in08, g08, counted, in09, g09, in10, g10, hour, minute, timed, in13, in13o, level3, level4, levelled, bearing, bearingFrom, degrees, minutes, pointed, in14, g14, after15, in15, g15, alternates, in16, rest16, inThree18, inFour18, in18, g18}
-use Rattle.changes.specs.Changes.{from18, from16, from15, from13, from10, from09, from08, inChanges, inChanged}
-use Rattle.types.specs.Messages.{fpl, cpl, est, chg, cnl, rti, rta, rla, lam, lrm}
+use Rattle.fields.specs.Fields.{in07, in08, g08, in09, g09, in10, g10, timed, in13, in13o, in14, g14, in15, g15, alternates, in16, rest16, in18, g18, fieldRules, hour, minute}
+use Rattle.types.specs.Messages.{fpl, cpl, est, chg, cnl, rti, rta, rla, lam, lrm, messageRules}
 use Rattle.message.specs.declared.Kind.{Kind}
 use Rattle.message.specs.declared.Kind.the-variants.{None, Fpl, Cpl, Est, Chg, Cnl, Rti, Rta, Rla, Lam, Lrm}
 use Rattle.message.specs.declared.Record.{Record}
 use Rattle.message.specs.declared.Verdict.the-variants.{Read}
 use Rattle.reader.specs.Reading.{cut, Judged}
 use Rattle.scan.specs.Parts.{strange-sound}
-use Rattle.compose.specs.Layout.{filled, only, isNil, takesFirst, first, laid, sure, single, pieces, samePieces, even, told, Tells, absent-part}
+use Rattle.compose.specs.Layout.{laid, told, Tells, absent-part, layoutTest}
 use Rattle.compose.specs.Order.{Within, same, second}
 use Rattle.pen.specs.Listed.{spanOf}
 use Rattle.pen.specs.Laying.{none-given, ledBy, textAlternates, own-part}
@@ -29,7 +28,6 @@ use Rattle.compose.specs.Recorded.{typeOf, its, its-order, its-kind, its-bytes,
 use Rattle.excerpt.specs.Excerpt.{Texts, textsOf, field14Of}
 use Rattle.excerpt.specs.Pieces.{kept, fine, derived}
 use Rattle.excerpt.specs.Said.{own-said}
-use Rattle.scan.specs.Bools.{sameBool}
 
 -- the texts that say which flight it is
 pub record Named (t : Texts) : Type 0 where
@@ -87,7 +85,7 @@ namesFlight Lam = false
 namesFlight Lrm = false
 
 type-plain : (k : Kind) → plain (typeOf k) ≡ true
-unfolding typeOf among occurs nullable clear apart fixed heads differ offLeaf off names strange covers plain inNumbered in07 in08 counted in09 in10 hour minute timed in13 in13o level3 level4 levelled bearing bearingFrom degrees minutes pointed in14 after15 in15 alternates in16 inThree18 inFour18 in18 from18 from16 from15 from13 from10 from09 from08 inChanges inChanged fpl cpl est chg cnl rti rta rla lam lrm
+unfolding typeOf messageRules plainTest
 type-plain None = refl
 type-plain Fpl = refl
 type-plain Cpl = refl
@@ -166,7 +164,7 @@ module _ (w : List ℕ) (r : Record) (j : Judged w Read r) (k : Kind) (e : r .ki
 
   -- THE TEXTS OF A PLAN
   planned : namesFlight k ≡ true → PlanIn (typeOf k) → Planned (textsOf w (r .parts .own))
-  unfolding typeOf kept fine filled only isNil takesFirst first laid sure single pieces sameBool samePieces even told among occurs nullable clear apart fixed heads differ offLeaf off names strange covers plain in07 in08 counted in09 in10 hour minute timed in13 level3 level4 levelled bearing bearingFrom degrees minutes pointed in14 after15 in15 alternates in16 inThree18 inFour18 in18
+  unfolding typeOf kept fine fieldRules layoutTest plainTest
   planned h i = record {
     key = key-said h;
     code = own-said w r j .code;
@@ -179,7 +177,7 @@ module _ (w : List ℕ) (r : Record) (j : Judged w Read r) (k : Kind) (e : r .ki
 
   -- FIELD 14
   estimated : Within (kept estimateParts (typeOf k)) g14 → Derives in14 (field14Of w (r .parts .estimate))
-  unfolding typeOf kept fine filled only isNil takesFirst first laid sure single pieces sameBool samePieces even told among occurs nullable clear apart fixed heads differ offLeaf off names strange covers plain in07 in08 counted in09 in10 hour minute timed in13 level3 level4 levelled bearing bearingFrom degrees minutes pointed in14 after15 in15 alternates in16 inThree18 inFour18 in18
+  unfolding typeOf kept fine fieldRules layoutTest plainTest
   estimated i = sure-field estimateParts g14 i refl
 
   no-estimate : strange estimateParts (typeOf k) ≡ true → field14Of w (r .parts .estimate) ≡ []

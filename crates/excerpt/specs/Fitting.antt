@@ -14,7 +14,7 @@ use Rattle.scan.specs.Grammar.{Span, G, run, Derives}
 use Rattle.scan.specs.Texts.{opt}
 use Rattle.scan.specs.Tests.{longest}
 use Rattle.scan.specs.Bounds.{derives-short}
-use Rattle.fields.specs.Fields.{in08, counted, in09, in10, hour, minute, timed, level3, level4, levelled, bearing, bearingFrom, degrees, minutes, pointed, in14, after15, in15, alternates, rest16, inThree18, inFour18, in18}
+use Rattle.fields.specs.Fields.{in08, in09, in10, timed, in14, in15, rest16, in18, fieldRules}
 use Rattle.message.specs.declared.Record.{Record}
 use Rattle.message.specs.declared.Verdict.the-variants.{Read}
 use Rattle.reader.specs.Reading.{Judged}
@@ -31,7 +31,7 @@ at-most : (g : G) (k : ℕ) → leb (longest g) k ≡ true → (t : List ℕ) �
 at-most g k e t d = omega (arith, leb-true (longest g) k e, derives-short g t d)
 
 pub short : (t : Texts) → Said t → Short t
-unfolding longest in08 counted in09 in10 hour minute timed level3 level4 after15 in15 alternates rest16 inThree18 inFour18 in18
+unfolding longest fieldRules
 short t s = record {
   aircraft = at-most (opt (run Alnum 2 7)) 7 refl (t .aircraft) (s .aircraft);
   code = at-most (opt (run Octal 4 4)) 4 refl (t .code) (s .code);
@@ -47,7 +47,7 @@ short t s = record {
 }
 
 short14 : (t : List ℕ) → Derives (opt in14) t → length t ≤ 27
-unfolding longest hour minute timed level3 level4 levelled bearing bearingFrom degrees minutes pointed in14
+unfolding longest fieldRules
 short14 t d = at-most (opt in14) 27 refl t d
 
 -- THE PARTS

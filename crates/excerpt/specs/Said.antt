@@ -7,16 +7,16 @@ use Prim.Native.Nat.{ℕ, _+_}
 use Rattle.scan.specs.declared.Class.the-variants.{Letter, Octal, Alnum}
 use Rattle.scan.specs.Grammar.{G, run, part, Derives}
 use Rattle.scan.specs.Texts.{opt}
-use Rattle.scan.specs.Scanner.{among, occurs}
-use Rattle.scan.specs.Tests.{nullable, clear, apart, fixed, heads, differ, offLeaf, off, names, strange, covers, plain}
+use Rattle.scan.specs.Scanner.{occurs}
+use Rattle.scan.specs.Tests.{names, plainTest}
 use Rattle.fields.specs.Names as n
-use Rattle.fields.specs.Fields.{inNumbered, in07, in08, counted, in09, in10, hour, minute, timed, in13, in13o, level3, level4, levelled, bearing, bearingFrom, degrees, minutes, pointed, in14, after15, in15, alternates, in16, rest16, inThree18, inFour18, in18, g08, g09, g10, g14, g15, g18}
+use Rattle.fields.specs.Fields.{in08, in09, in10, timed, in14, in15, alternates, rest16, in18, g08, g09, g10, g14, g15, g18, fieldRules}
 use Rattle.message.specs.declared.Record.{Record}
 use Rattle.message.specs.declared.Verdict.the-variants.{Read}
 use Rattle.reader.specs.Reading.{cut, Judged}
 use Rattle.message.specs.Record.{kindOf}
 use Rattle.types.specs.Picking.{lettersOf}
-use Rattle.compose.specs.Layout.{filled, only, isNil, takesFirst, first, laid, sure, single, pieces, samePieces, even, told, Tells}
+use Rattle.compose.specs.Layout.{filled, only, isNil, takesFirst, laid, Tells, layoutTest}
 use Rattle.compose.specs.Order.{ordered, Within, same, cases, first as one-of}
 use Rattle.pen.specs.Listed.{spanOf}
 use Rattle.pen.specs.Laying.{own-part}
@@ -24,7 +24,6 @@ use Rattle.compose.specs.Composed.{sizes, bytesIn}
 use Rattle.compose.specs.Recorded.{ordered-plain, of-letters, its, its-order, its-bytes, its-size}
 use Rattle.excerpt.specs.Excerpt.{Texts, textsOf, field14Of}
 use Rattle.excerpt.specs.Pieces.{kept, fine, derived}
-use Rattle.scan.specs.Bools.{sameBool}
 
 -- each text is one of its rule, or empty
 pub record Said (t : Texts) : Type 0 where
@@ -61,7 +60,7 @@ module _ (w : List ℕ) (r : Record) (j : Judged w Read r) (a b c : ℕ) (t : Te
   part-said k g i y = subst (Derives (opt g)) (own-part w (spanOf r k)) (field-said (k ∷ []) (opt (part k g)) i y)
 
   own-ordered : Said (textsOf w (r .parts .own))
-  unfolding kept fine ordered filled only isNil takesFirst first laid sure single pieces sameBool samePieces even told among occurs nullable clear apart fixed heads differ offLeaf off names strange covers plain inNumbered in07 in08 counted in09 in10 hour minute timed in13 in13o level3 level4 levelled bearing bearingFrom degrees minutes pointed in14 after15 in15 alternates in16 rest16 inThree18 inFour18 in18
+  unfolding kept fine ordered fieldRules layoutTest plainTest
   own-ordered = record {
     aircraft = part-said n.aircraft (run Alnum 2 7) same refl;
     code = part-said n.code (run Octal 4 4) flat refl;
@@ -77,7 +76,7 @@ module _ (w : List ℕ) (r : Record) (j : Judged w Read r) (a b c : ℕ) (t : Te
   }
 
   changes-ordered : Said (textsOf w (r .parts .changes))
-  unfolding kept fine ordered filled only isNil takesFirst first laid sure single pieces sameBool samePieces even told among occurs nullable clear apart fixed heads differ offLeaf off names strange covers plain inNumbered in07 in08 counted in09 in10 hour minute timed in13 in13o level3 level4 levelled bearing bearingFrom degrees minutes pointed in14 after15 in15 alternates in16 rest16 inThree18 inFour18 in18
+  unfolding kept fine ordered fieldRules layoutTest plainTest
   changes-ordered = record {
     aircraft = part-said (n.amended + n.aircraft) (run Alnum 2 7) same refl;
     code = part-said (n.amended + n.code) (run Octal 4 4) flat refl;
@@ -93,7 +92,7 @@ module _ (w : List ℕ) (r : Record) (j : Judged w Read r) (a b c : ℕ) (t : Te
   }
 
   field14-ordered : Derives (opt in14) (field14Of w (r .parts .estimate))
-  unfolding kept fine ordered filled only isNil takesFirst first laid sure single pieces sameBool samePieces even told among occurs nullable clear apart fixed heads differ offLeaf off names strange covers plain inNumbered in07 in08 counted in09 in10 hour minute timed in13 in13o level3 level4 levelled bearing bearingFrom degrees minutes pointed in14 after15 in15 alternates in16 rest16 inThree18 inFour18 in18
+  unfolding kept fine ordered fieldRules layoutTest plainTest
   field14-ordered = field-said (64 ∷ 65 ∷ 66 ∷ 67 ∷ 68 ∷ []) (opt g14) same refl
 
 -- WHAT IS KEPT OF A MESSAGE THAT WAS READ

@@ -9,19 +9,18 @@ use lib.ListN.{length, getD, take, drop}
 use lib.Seq.{getD-take, getD-drop}
 use lib.Dec.{leb}
 use borrow.Author.Tests.{leb-true}
-use Rattle.scan.specs.Bools.{and-l, and-r, sameBool}
+use Rattle.scan.specs.Bools.{and-l, and-r}
 use Rattle.scan.specs.declared.Class.the-variants.{Letter, Digit}
 use Rattle.scan.specs.Grammar.{placeOf, sizeOf, Span, G, run, words, part, isIn, all, Derives}
 use Rattle.scan.specs.Texts.{opt}
-use Rattle.scan.specs.Scanner.{among, occurs}
-use Rattle.scan.specs.Tests.{nullable, clear, apart, fixed, heads, differ, offLeaf, off, names, strange, covers, plain}
+use Rattle.scan.specs.Tests.{plainTest}
 use Rattle.fields.specs.Names as n
-use Rattle.fields.specs.Fields.{inNumbered, in07, in08, counted, in09, in10, hour, minute, timed, in13, in13o, level3, level4, levelled, bearing, bearingFrom, degrees, minutes, pointed, in14, after15, in15, alternates, in16, inThree18, inFour18, in18}
+use Rattle.fields.specs.Fields.{fieldRules}
 use Rattle.message.specs.declared.Record.{Record}
 use Rattle.message.specs.declared.Verdict.the-variants.{Read}
 use Rattle.message.specs.Record.{figure, figureIn}
 use Rattle.reader.specs.Reading.{cut, Judged}
-use Rattle.compose.specs.Layout.{filled, only, isNil, takesFirst, first, laid, sure, single, pieces, samePieces, even, told, Tells}
+use Rattle.compose.specs.Layout.{laid, Tells, layoutTest}
 use Rattle.compose.specs.Order.{ordered, Within, same}
 use Rattle.pen.specs.Listed.{spanOf}
 use Rattle.compose.specs.Recorded.{its, its-inside, cut-size}
@@ -35,7 +34,7 @@ module _ (w : List ℕ) (r : Record) (j : Judged w Read r) (a b c : ℕ) (t : Te
   sure-part k g i y = field-said w r j a b c t (k ∷ []) (part k g) i y
 
   number-ordered : Derives (run Letter 4 4) (cut w (r .parts .number .sender)) × Derives (run Letter 4 4) (cut w (r .parts .number .receiver)) × Derives (run Digit 3 3) (cut w (r .parts .number .digits))
-  unfolding kept fine ordered filled only isNil takesFirst first laid sure single pieces sameBool samePieces even told among occurs nullable clear apart fixed heads differ offLeaf off names strange covers plain inNumbered in07 in08 counted in09 in10 hour minute timed in13 in13o level3 level4 levelled bearing bearingFrom degrees minutes pointed in14 after15 in15 alternates in16 inThree18 inFour18 in18
+  unfolding kept fine ordered fieldRules layoutTest plainTest
   number-ordered = (
     sure-part n.sender (run Letter 4 4) same refl,
     sure-part n.receiver (run Letter 4 4) same refl,
@@ -43,7 +42,7 @@ module _ (w : List ℕ) (r : Record) (j : Judged w Read r) (a b c : ℕ) (t : Te
   )
 
   sector-ordered : Derives (opt (words 20)) (cut w (r .parts .sector))
-  unfolding kept fine ordered filled only isNil takesFirst first laid sure single pieces sameBool samePieces even told among occurs nullable clear apart fixed heads differ offLeaf off names strange covers plain inNumbered in07 in08 counted in09 in10 hour minute timed in13 in13o level3 level4 levelled bearing bearingFrom degrees minutes pointed in14 after15 in15 alternates in16 inThree18 inFour18 in18
+  unfolding kept fine ordered fieldRules layoutTest plainTest
   sector-ordered = part-said w r j a b c t n.sector (words 20) same refl
 
 -- THE FIGURE OF THREE DIGITS

@@ -13,13 +13,13 @@ use Rattle.scan.specs.declared.Class.the-variants.{Letter, Digit, Alnum, Byte, 
 use Rattle.scan.specs.Grammar.{G, ranges, run, words, alt, part, none}
 use Rattle.scan.specs.Texts.{_⨾_, byte, one, lit}
 use Rattle.scan.specs.Scanner.{scan, longer, among, occurs, spanBy, spot}
-use Rattle.scan.specs.Tests.{nullable, first, clear, apart, bytes, follow, some, good, fixed, heads, differ}
+use Rattle.scan.specs.Tests.{bytes, goodTest}
 use Rattle.scan.specs.Bounds.{scan-forth}
-use Rattle.scan.specs.Picks.{Same, same-trans, sunderLeaf, sunder, lies, within, it, in-seq, then, in-part, in-field, begins-stays, chosen, given-up, by-byte, not-byte, one-passed, one-missed, run-passed, run-longer, unbeaten, stops}
+use Rattle.scan.specs.Picks.{Same, same-trans, lies, within, it, in-seq, then, in-part, in-field, begins-stays, chosen, given-up, by-byte, not-byte, one-passed, one-missed, run-passed, run-longer, unbeaten, stops, sunderTest}
 use Rattle.fields.specs.declared.Found15.{Found15}
 use Rattle.fields.specs.declared.Found18.{Found18}
 use Rattle.fields.specs.Names as n
-use Rattle.fields.specs.Fields.{hour, minute, level3, level4, levelled, bearing, bearingFrom, degrees, minutes, pointed, after15, in15, nothing18, inThree18, three18, inFour18, four18, in18, below60}
+use Rattle.fields.specs.Fields.{hour, minute, level3, level4, levelled, bearing, bearingFrom, degrees, minutes, pointed, after15, in15, nothing18, inThree18, three18, inFour18, four18, in18, below60, fieldRules}
 use Rattle.fields.specs.Found.{foundRouted, foundAfter15, foundSped, found15, found18}
 
 abbrev early : G
@@ -59,31 +59,31 @@ abbrev pub OfPoint : List ℕ → Scan → Scan → Type 0
 OfPoint s r q = (x : G) × ArmOf x pointed × (q ≡ scan x s r)
 
 pub name-arm : ArmOf (run Alnum 2 5) pointed
-unfolding pointed bearingFrom bearing degrees minutes minute within lies bytes
+unfolding within lies bytes fieldRules
 name-arm = first-arm itself refl
 
 pub two-arm : ArmOf (bearingFrom 2) pointed
-unfolding pointed bearingFrom bearing degrees minutes minute within lies bytes
+unfolding within lies bytes fieldRules
 two-arm = later-arm (first-arm (first-arm itself refl) refl) refl
 
 pub three-arm : ArmOf (bearingFrom 3) pointed
-unfolding pointed bearingFrom bearing degrees minutes minute within lies bytes
+unfolding within lies bytes fieldRules
 three-arm = later-arm (first-arm (later-arm (first-arm itself refl) refl) refl) refl
 
 pub four-arm : ArmOf (bearingFrom 4) pointed
-unfolding pointed bearingFrom bearing degrees minutes minute within lies bytes
+unfolding within lies bytes fieldRules
 four-arm = later-arm (first-arm (later-arm (later-arm (first-arm itself refl) refl) refl) refl) refl
 
 pub five-arm : ArmOf (bearingFrom 5) pointed
-unfolding pointed bearingFrom bearing degrees minutes minute within lies bytes
+unfolding within lies bytes fieldRules
 five-arm = later-arm (first-arm (later-arm (later-arm (later-arm itself refl) refl) refl) refl) refl
 
 pub degrees-arm : ArmOf degrees pointed
-unfolding pointed bearingFrom bearing degrees minutes minute within lies bytes
+unfolding within lies bytes fieldRules
 degrees-arm = later-arm (later-arm (first-arm itself refl) refl) refl
 
 pub minutes-arm : ArmOf minutes pointed
-unfolding pointed bearingFrom bearing degrees minutes minute within lies bytes
+unfolding within lies bytes fieldRules
 minutes-arm = later-arm (later-arm (later-arm itself refl) refl) refl
 
 -- the later of two is whole and not behind
@@ -138,7 +138,7 @@ module _ (s : List ℕ) (r : Scan) where
   -- A TIME'S HOUR
 
   pub hour-early : scan (one (Range 48 49)) s r .ok ≡ true → scan early s r ≡ scan hour s r
-  unfolding hour sunder sunderLeaf differ heads fixed good some apart clear follow first nullable
+  unfolding hour goodTest sunderTest
   hour-early o = sym (by-byte (Range 48 49) s r early late (in-seq it) refl refl refl o .0)
 
   pub hour-late : scan (one (Range 48 49)) s r .ok ≡ false → scan late s r ≡ scan hour s r
@@ -148,7 +148,7 @@ module _ (s : List ℕ) (r : Scan) where
   -- A LEVEL
 
   pub level-three : scan (one (Of 70 65 65 65 65)) s r .ok ≡ true → scan (one (Of 70 65 65 65 65) ⨾ run Digit 3 3) s r ≡ scan levelled s r
-  unfolding levelled level3 level4 sunder sunderLeaf differ heads fixed good some apart clear follow first nullable
+  unfolding levelled level3 level4 goodTest sunderTest
   level-three o = sym (by-byte (Of 70 65 65 65 65) s r level3 level4 (in-seq it) refl refl refl o .0)
 
   pub level-four : scan (one (Of 70 65 65 65 65)) s r .ok ≡ false → scan (one (Of 83 77 77 77 77) ⨾ run Digit 4 4) s r ≡ scan levelled s r
@@ -158,11 +158,11 @@ module _ (s : List ℕ) (r : Scan) where
   -- A BEARING
 
   pub bearing-low : scan (one (Range 48 50)) s r .ok ≡ true → scan (one (Range 48 50) ⨾ run Digit 2 2) s r ≡ scan bearing s r
-  unfolding bearing sunder sunderLeaf differ heads fixed good some apart clear follow first nullable
+  unfolding bearing goodTest sunderTest
   bearing-low o = sym (by-byte (Range 48 50) s r (one (Range 48 50) ⨾ run Digit 2 2) (byte 51 ⨾ alt below60 sixty) (in-seq it) refl refl refl o .0)
 
   pub bearing-high : scan (one (Range 48 50)) s r .ok ≡ false → scan (one (Range 48 53)) s (scan (byte 51) s r) .ok ≡ true → scan (byte 51 ⨾ below60) s r ≡ scan bearing s r
-  unfolding bearing sunder sunderLeaf differ heads fixed good some apart clear follow first nullable
+  unfolding bearing goodTest sunderTest
   bearing-high o e =
       sym (by-byte (Range 48 53) s (scan (byte 51) s r) below60 sixty (in-seq it) refl refl refl e .0)
       ∙ sym (not-byte (Range 48 50) s r (one (Range 48 50) ⨾ run Digit 2 2) (byte 51 ⨾ alt below60 sixty) (in-seq it) o .0)
@@ -211,13 +211,13 @@ module _ (s : List ℕ) (r : Scan) where
 
   module _ (k : ℕ) (h : 7 ≤ k) where
     pub after-three : scan (one (Of 70 65 65 65 65)) s r .ok ≡ true → foundRouted s r (scan (one (Of 70 65 65 65 65) ⨾ run Digit 3 3) s r) (k - 5) ≡ foundAfter15 k s r
-    unfolding foundRouted foundAfter15 after15 level3 level4 occurs spanBy sunder sunderLeaf differ heads fixed good some apart clear follow first nullable
+    unfolding foundRouted foundAfter15 after15 level3 level4 occurs spanBy goodTest sunderTest
     after-three o =
         let p = by-byte (Of 70 65 65 65 65) s r (routed level3 (k - 5)) (alt (routed level4 (k - 6)) (routed vfr (k - 4))) (in-seq (in-part (in-seq it))) (rw (lt-ltb 0 (k - 5) (omega arith))) (rw (lt-ltb 0 (k - 6) (omega arith), lt-ltb 0 (k - 4) (omega arith))) refl o in
         sym (λ i. record { end = p .0 i; speed = none; level = p .1 n.level i; route = p .1 n.route i })
 
     pub after-four : scan (one (Of 70 65 65 65 65)) s r .ok ≡ false → scan (one (Of 83 77 77 77 77)) s r .ok ≡ true → foundRouted s r (scan (one (Of 83 77 77 77 77) ⨾ run Digit 4 4) s r) (k - 6) ≡ foundAfter15 k s r
-    unfolding foundRouted foundAfter15 after15 level3 level4 occurs spanBy sunder sunderLeaf differ heads fixed good some apart clear follow first nullable
+    unfolding foundRouted foundAfter15 after15 level3 level4 occurs spanBy goodTest sunderTest
     after-four e o =
         let q = not-byte (Of 70 65 65 65 65) s r (routed level3 (k - 5)) (alt (routed level4 (k - 6)) (routed vfr (k - 4))) (in-seq (in-part (in-seq it))) e in
         let p = by-byte (Of 83 77 77 77 77) s r (routed level4 (k - 6)) (routed vfr (k - 4)) (in-seq (in-part (in-seq it))) (rw (lt-ltb 0 (k - 6) (omega arith))) (rw (lt-ltb 0 (k - 4) (omega arith))) refl o in
@@ -235,7 +235,7 @@ module _ (s : List ℕ) (r : Scan) where
   -- FIELD 15
 
   pub speed-knots : scan (one (Of 75 78 78 78 78)) s r .ok ≡ true → foundSped s r (scan (one (Of 75 78 78 78 78) ⨾ run Digit 4 4) s r) 295 ≡ found15 0 s r
-  unfolding foundSped foundAfter15 in15 among occurs spanBy after15 level3 level4 sunder sunderLeaf differ heads fixed good some apart clear follow first nullable
+  unfolding foundSped foundAfter15 in15 among occurs spanBy after15 level3 level4 goodTest sunderTest
   speed-knots o = as15 (in15 0) knots s r (by-byte (Of 75 78 78 78 78) s r knots mach (in-seq (in-part (in-seq it))) refl refl refl o)
 
   pub speed-mach : scan (one (Of 75 78 78 78 78)) s r .ok ≡ false → foundSped s r (scan (byte 77 ⨾ run Digit 3 3) s r) 296 ≡ found15 0 s r
@@ -245,7 +245,7 @@ module _ (s : List ℕ) (r : Scan) where
   -- FIELD 18
 
   pub nothing-18 : scan (byte 48) s r .ok ≡ true → found18By (nothing18 0) s r ≡ found18 0 s r
-  unfolding in18 inThree18 inFour18 among occurs spanBy sunder sunderLeaf differ heads fixed good some apart clear follow first nullable
+  unfolding in18 inThree18 inFour18 among occurs spanBy goodTest sunderTest
   nothing-18 o = as18 (in18 0) (nothing18 0) s r (by-byte (Byte 48) s r (nothing18 0) letters18 (in-part it) refl refl refl o)
 
   letters-18 : scan (byte 48) s r .ok ≡ false → Same (in18 0) letters18 s r
@@ -254,7 +254,7 @@ module _ (s : List ℕ) (r : Scan) where
 
   -- three letters and a slash leave no room for a fourth letter
   pub three-over : scan key18 s r .ok ≡ true → Same letters18 (three18 0) s r
-  unfolding inThree18 inFour18 sunder sunderLeaf differ heads fixed good some apart clear follow first nullable
+  unfolding inThree18 inFour18 goodTest sunderTest
   three-over o =
       let q : Scan = scan (run Letter 3 3) s r in
       let p = one-passed (Byte 47) s q o in

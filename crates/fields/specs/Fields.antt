@@ -201,3 +201,8 @@ g31 = part n.sector (words 20)
 
 abbrev pub g32 : G
 g32 = part n.track (words 60)
+
+-- `unfolding fieldRules` opens the rule of every field
+unfoldable pub fieldRules : Unit {0}
+unfolding inNumbered in07 in08 counted in09 in10 hour minute timed in13 in13o level3 level4 levelled bearing bearingFrom degrees minutes pointed in14 after15 in15 alternates in16 rest16 inThree18 inFour18 in18
+fieldRules = tt

@@ -8,7 +8,7 @@ use Rattle.scan.specs.declared.Class.the-variants.{Letter, Octal, Alnum}
 use Rattle.scan.specs.Grammar.{run}
 use Rattle.scan.specs.Texts.{opt}
 use Rattle.scan.specs.Tests.{nullable, longest}
-use Rattle.fields.specs.Fields.{in08, counted, in09, in10, hour, minute, timed, level3, level4, levelled, bearing, bearingFrom, degrees, minutes, pointed, in14, after15, in15, alternates, rest16, inThree18, inFour18, in18}
+use Rattle.fields.specs.Fields.{in08, in09, in10, hour, minute, timed, in14, in15, rest16, in18, fieldRules}
 use Rattle.places.specs.Bytes.{two-bytes}
 use Rattle.flights.specs.Padding.{trimmed, Neat, AllNeat, cut-row, row-back}
 use Rattle.flights.specs.Ends.{unblank, neat}
@@ -20,12 +20,12 @@ time-neat filed t d = neat timed 4 refl refl t d
 time-neat active t d = neat (opt timed) 4 refl refl t d
 
 estimate-neat : (s : Status) (t : List ℕ) → Estimated s t → Neat 27 t
-unfolding trimmed unblank longest nullable hour minute timed level3 level4 levelled bearing bearingFrom degrees minutes pointed in14
+unfolding trimmed unblank longest nullable fieldRules
 estimate-neat filed t e = (omega (arith, ap length e), ap trimmed e ∙ sym e)
 estimate-neat active t d = neat in14 27 refl refl t d
 
 pub texts-neat : (f : Flight) → Sound f → AllNeat widths (textsOf f)
-unfolding unblank longest nullable in08 counted in09 in10 minute level3 level4 after15 in15 alternates inThree18 inFour18 in18 rest16
+unfolding unblank longest nullable fieldRules
 texts-neat f s = (
   neat (run Alnum 2 7) 7 refl refl (f .aircraft) (s .aircraft),
   (

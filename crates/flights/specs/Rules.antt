@@ -4,8 +4,8 @@ use mathlib.Core.Bool.{true}
 use Rattle.scan.specs.declared.Class.the-variants.{Octal, Alnum}
 use Rattle.scan.specs.Grammar.{run}
 use Rattle.scan.specs.Texts.{opt}
-use Rattle.scan.specs.Tests.{nullable, first, clear, apart, bytes, follow, some, good}
-use Rattle.fields.specs.Fields.{in08, counted, in09, in10, hour, minute, timed, level3, level4, levelled, bearing, bearingFrom, degrees, minutes, pointed, in14, after15, in15, alternates, rest16, inThree18, inFour18, in18}
+use Rattle.scan.specs.Tests.{some, good, goodTest}
+use Rattle.fields.specs.Fields.{in08, in09, in10, timed, in14, in15, rest16, in18, fieldRules}
 
 pub good-aircraft : good (run Alnum 2 7) ≡ true
 unfolding some good
@@ -16,33 +16,33 @@ unfolding some good
 good-code = refl
 
 pub good-time : good timed ≡ true
-unfolding nullable first clear apart bytes follow some good hour minute timed
+unfolding fieldRules goodTest
 good-time = refl
 
 pub good-08 : good (in08 0) ≡ true
-unfolding nullable first clear apart bytes follow some good in08
+unfolding fieldRules goodTest
 good-08 = refl
 
 pub good-09 : good (in09 0) ≡ true
-unfolding nullable first clear apart bytes follow some good counted in09
+unfolding fieldRules goodTest
 good-09 = refl
 
 pub good-10 : good (in10 0) ≡ true
-unfolding nullable first clear apart bytes follow some good in10
+unfolding fieldRules goodTest
 good-10 = refl
 
 pub good-14 : good in14 ≡ true
-unfolding nullable first clear apart bytes follow some good hour minute timed level3 level4 levelled bearing bearingFrom degrees minutes pointed in14
+unfolding fieldRules goodTest
 good-14 = refl
 
 pub good-rest16 : good (rest16 0) ≡ true
-unfolding nullable first clear apart bytes follow some good minute alternates rest16
+unfolding fieldRules goodTest
 good-rest16 = refl
 
 pub good-15 : good (in15 0) ≡ true
-unfolding nullable first clear apart bytes follow some good level3 level4 after15 in15
+unfolding fieldRules goodTest
 good-15 = refl
 
 pub good-18 : good (in18 0) ≡ true
-unfolding nullable first clear apart bytes follow some good inThree18 inFour18 in18
+unfolding fieldRules goodTest
 good-18 = refl

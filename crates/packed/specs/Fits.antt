@@ -15,9 +15,7 @@ use Rattle.scan.specs.Bools.{and-l, and-r, or-split}
 use Rattle.scan.specs.Grammar.{placeOf, sizeOf, Span, Ranges, has, ranges, isIn, all, text, G, eps, run, words, seq, alt, part, field, Derives, look}
 use Rattle.scan.specs.Parts.{reads-derives, part-within}
 use Rattle.scan.specs.Bounds.{derives-short}
-use Rattle.fields.specs.Fields.{inNumbered, in07, in08, counted, in09, in10, hour, minute, timed, in13, in13o, level3, level4, levelled, bearing, bearingFrom, degrees, minutes, pointed, in14, after15, in15, alternates, in16, inThree18, inFour18, in18}
-use Rattle.changes.specs.Changes.{from18, from16, from15, from13, from10, from09, from08, inChanges, inChanged}
-use Rattle.types.specs.Messages.{fpl, cpl, est, chg, cnl, rti, rta, rla, lam, lrm, message}
+use Rattle.types.specs.Messages.{message, messageRules}
 use Rattle.types.specs.Sound.{message-longest}
 use Rattle.types.specs.Scanned.{partsOf}
 use Rattle.message.specs.declared.Kind.{Kind}
@@ -102,7 +100,7 @@ derives-low (part n g) c w d = derives-low g c w d
 derives-low (field ns g) c w d = derives-low g c w d
 
 message-capped : capped message ≡ true
-unfolding capped tops inNumbered in07 in08 counted in09 in10 hour minute timed in13 in13o level3 level4 levelled bearing bearingFrom degrees minutes pointed in14 after15 in15 alternates in16 inThree18 inFour18 in18 from18 from16 from15 from13 from10 from09 from08 inChanges inChanged fpl cpl est chg cnl rti rta rla lam lrm message
+unfolding capped tops messageRules
 message-capped = refl
 
 -- FIGURES

@@ -12,9 +12,7 @@ use borrow.Author.Tests.{leb-true}
 use Rattle.scan.specs.declared.Class.the-variants.{Word, Byte}
 use Rattle.scan.specs.Grammar.{G, eps, run, words, seq, alt, part, field, isIn, all, text, Part, placed, Reads}
 use Rattle.scan.specs.Parts.{reads-derives}
-use Rattle.fields.specs.Fields.{inNumbered, in07, in08, counted, in09, in10, hour, minute, timed, in13, in13o, level3, level4, levelled, bearing, bearingFrom, degrees, minutes, pointed, in14, after15, in15, alternates, in16, inThree18, inFour18, in18}
-use Rattle.changes.specs.Changes.{from18, from16, from15, from13, from10, from09, from08, inChanges, inChanged}
-use Rattle.types.specs.Messages.{fpl, cpl, est, chg, cnl, rti, rta, rla, lam, lrm, message}
+use Rattle.types.specs.Messages.{message, messageRules}
 use Rattle.message.specs.declared.Record.{Record}
 use Rattle.message.specs.declared.Verdict.the-variants.{Read}
 use Rattle.message.specs.Record.{figure, kindOf, isChg, levelKindOf, levelIn, formIn, recordOf, blank}
@@ -152,5 +150,5 @@ message-told w e = sym (read-message w (recordIn w) (read-judged w e))
 
 -- what has to be seen through for a text to be read by computing: `unfolding reading` opens all of it
 unfoldable pub reading : Unit {0}
-unfolding all text inNumbered in07 in08 counted in09 in10 hour minute timed in13 in13o level3 level4 levelled bearing bearingFrom degrees minutes pointed in14 after15 in15 alternates in16 inThree18 inFour18 in18 from18 from16 from15 from13 from10 from09 from08 inChanges inChanged fpl cpl est chg cnl rti rta rla lam lrm message kindOf figure isChg levelKindOf levelIn formIn same textOf partsOf right runs cutOff longerOf find foundRight foundRecord isRead recordIn told
+unfolding all text kindOf figure isChg levelKindOf levelIn formIn same textOf partsOf right runs cutOff longerOf find foundRight foundRecord isRead recordIn told messageRules
 reading = tt

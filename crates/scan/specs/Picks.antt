@@ -16,7 +16,7 @@ use Rattle.scan.specs.declared.Class.the-variants.{Word, Byte}
 use Rattle.scan.specs.Grammar.{Ranges, has, ranges, isIn, G, eps, run, words, seq, alt, part, field}
 use Rattle.scan.specs.Texts.{one, byte, lit}
 use Rattle.scan.specs.Scanner.{runAt, runScan, wordsAt, wordsScan, leads, scan, from, scanAt, spanBy, spot}
-use Rattle.scan.specs.Tests.{good, heads, differ, apart, bytes, longest}
+use Rattle.scan.specs.Tests.{good, heads, differ, apart, bytes, longest, fixed, clear}
 use Rattle.scan.specs.Theory.{apart-off, right, skip, ok-before}
 use Rattle.scan.specs.Parts.{Fits, heads-sound, longer-is}
 use Rattle.scan.specs.Bounds.{scan-forth, scan-short}
@@ -429,3 +429,8 @@ stops c x b w s r o e =
 -- what a function returned is whole, or not, as the scan that it is
 pub so : (q p : Scan) (b : Bool) → q ≡ p → q .ok ≡ b → p .ok ≡ b
 so q p b e o = sym (ap (λ (x : Scan). x .ok) e) ∙ o
+
+-- `unfolding sunderTest` opens all that `sunder` is made of
+unfoldable pub sunderTest : Unit {0}
+unfolding sunder sunderLeaf differ heads fixed apart clear
+sunderTest = tt

@@ -160,3 +160,13 @@ longest (seq a b) = longest a + longest b
 longest (alt a b) = max (longest a) (longest b)
 longest (part n g) = longest g
 longest (field ns g) = longest g
+
+-- WHAT HAS TO BE SEEN THROUGH for a test to be computed: `unfolding goodTest` opens all that `good` is made of
+
+unfoldable pub goodTest : Unit {0}
+unfolding nullable first clear apart bytes follow some good
+goodTest = tt
+
+unfoldable pub plainTest : Unit {0}
+unfolding among occurs nullable clear apart fixed heads differ offLeaf off names strange covers plain
+plainTest = tt

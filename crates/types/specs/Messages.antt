@@ -6,7 +6,7 @@ use Rattle.scan.specs.Grammar.{G, run, alt, part}
 use Rattle.scan.specs.Texts.{_⨾_, byte, lit}
 use Rattle.fields.specs.Names.{reason, sender, receiver, number, referenceSender, referenceReceiver, referenceNumber}
 use Rattle.fields.specs.Fields.{_─_, numbered, g07, g07a, g08, g09, g10, g13, g13s, g13o, g14, g15, g16, g16s, g18, g31, g32}
-use Rattle.changes.specs.Changes.{changed}
+use Rattle.changes.specs.Changes.{changed, changeRules}
 
 -- "(", three letters of type, the number
 abbrev pub opened : ℕ → ℕ → ℕ → G
@@ -49,3 +49,8 @@ lrm = referring 76 82 77 ─ lit (82 ∷ 77 ∷ 75 ∷ 47 ∷ []) ⨾ part reaso
 
 unfoldable pub message : G
 message = alt fpl (alt cpl (alt est (alt chg (alt cnl (alt rti (alt rta (alt rla (alt lam lrm))))))))
+
+-- `unfolding messageRules` opens all of them, to the last field
+unfoldable pub messageRules : Unit {0}
+unfolding changeRules fpl cpl est chg cnl rti rta rla lam lrm message
+messageRules = tt

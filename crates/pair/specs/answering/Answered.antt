@@ -11,7 +11,7 @@ use lib.Seq.{getD-take, getD-drop}
 use Rattle.scan.specs.declared.Class.the-variants.{Letter, Digit}
 use Rattle.scan.specs.Grammar.{placeOf, sizeOf, Span, all, text, run, words, part, Derives}
 use Rattle.scan.specs.Scanner.{among, occurs}
-use Rattle.scan.specs.Tests.{nullable, clear, apart, fixed, heads, differ, offLeaf, off, names, strange, covers, plain}
+use Rattle.scan.specs.Tests.{nullable, names, strange, covers, plain, plainTest}
 use Rattle.fields.specs.Names as n
 use Rattle.fields.specs.Fields.{inNumbered, in07}
 use Rattle.types.specs.Messages.{rti}
@@ -70,7 +70,7 @@ figure-three s p e = ap (λ (k : ℕ). figureAt k s (placeOf p)) e ∙ figure-cu
 
 -- a text of an RTI has one reading only
 rti-plain : plain rti ≡ true
-unfolding among occurs nullable clear apart fixed heads differ offLeaf off names strange covers plain inNumbered in07 rti
+unfolding inNumbered in07 rti plainTest
 rti-plain = refl
 
 -- where it is there, it stands after a hyphen
