@@ -245,6 +245,16 @@ fn number_figure(s: &[u8], p: Span) -> usize
     figure(s, at, len)
 }
 
+// Only an LRM has the part p, so it is mostly told at once that it is absent.
+fn seldom_figure(s: &[u8], p: Span) -> usize
+    ensures { λ r. ⌜ r ≡ figureAt (sizeOf p) (now (s .entry)) (placeOf p) ⌝ }
+{
+    if p % 65536 == 0 {
+        return 0;
+    }
+    number_figure(s, p)
+}
+
 fn absent(p: Span) -> bool
     ensures { λ r. ⌜ r ≡ eqb (sizeOf p) 0 ⌝ }
 {
@@ -262,7 +272,7 @@ pub fn decoded(s: &[u8], p: Parts) -> Figures
     let c = p.changes;
     let number = number_figure(s, n.digits);
     let reference = number_figure(s, r.digits);
-    let reason = number_figure(s, p.reason);
+    let reason = seldom_figure(s, p.reason);
     let plans = absent(o.count) & absent(o.level) & absent(c.count) & absent(c.level);
     let point = absent(e.point) & absent(e.crossing) & absent(e.second);
     if plans & point {

@@ -15,7 +15,7 @@ use Rattle.scan.specs.declared.Scan.{Scan}
 use Rattle.scan.specs.declared.Class.{Class}
 use Rattle.scan.specs.declared.Class.the-variants.{Word, Byte, Range, Two}
 use Rattle.scan.specs.Grammar.{isIn, all}
-use Rattle.scan.specs.Bools.{and-l, and-r, both, known}
+use Rattle.scan.specs.Bools.{and-l, and-r, both, known, or-r}
 use Rattle.scan.specs.Scanner.{scan, runAt, runScan, wordsAt, wordsScan}
 
 module _ (c : Class) (s : List ℕ) (i : ℕ) where
@@ -264,3 +264,22 @@ four (x ∷ y ∷ []) e = absurd (omega (arith, e))
 four (x ∷ y ∷ z ∷ []) e = absurd (omega (arith, e))
 four (x ∷ y ∷ z ∷ u ∷ []) e = refl
 four (x ∷ y ∷ z ∷ u ∷ v ∷ a) e = absurd (omega (arith, e))
+
+-- TWO RANGES, one after the other
+
+or-none : (t : Bool) → t || false ≡ t
+or-none true = refl
+or-none false = refl
+
+and-none : (t : Bool) → t && false ≡ false
+and-none true = refl
+and-none false = refl
+
+pub two-below : (a z b y x : ℕ) → x < a → leb b x && leb x y ≡ isIn (Two a z b y) x
+two-below a z b y x h = sym (rw (lt-leb a x h) (or-none (leb b x && leb x y)))
+
+pub two-in : (a z b y x : ℕ) → a ≤ x → x ≤ z → true ≡ isIn (Two a z b y) x
+two-in a z b y x h k = sym (rw (le-leb a x h, le-leb x z k) (or-r (leb b x && leb x y) true refl))
+
+pub two-above : (a z b y x : ℕ) → z < x → leb b x && leb x y ≡ isIn (Two a z b y) x
+two-above a z b y x h = sym (rw (lt-leb x z h, and-none (leb a x)) (or-none (leb b x && leb x y)))

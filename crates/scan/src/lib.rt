@@ -60,6 +60,19 @@ pub fn is_in(k: Class, b: u8) -> bool
     }
 }
 
+// Whether a byte is from a to z or from b to y. Where bytes go one by one, a way out after each test costs less than all tests.
+fn in_two(x: u8, a: u8, z: u8, b: u8, y: u8) -> bool
+    ensures { λ r. ⌜ r ≡ isIn (Class.Two a z b y) x ⌝ }
+{
+    if x < a {
+        return (b <= x) & (x <= y);
+    }
+    if x <= z {
+        return true;
+    }
+    (b <= x) & (x <= y)
+}
+
 // How far bytes from a to z or from b to y go on, at most hi of them. The ranges are numbers and no class, so that they
 // stand in registers.
 fn reach(s: &[u8], at: usize, hi: usize, a: u8, z: u8, b: u8, y: u8) -> usize
@@ -71,7 +84,7 @@ fn reach(s: &[u8], at: usize, hi: usize, a: u8, z: u8, b: u8, y: u8) -> usize
         if s.len() <= i {
             return i;
         }
-        if !is_in(Class::Two(a, z, b, y), s[i]) {
+        if !in_two(s[i], a, z, b, y) {
             return i;
         }
         i += 1;

@@ -16,7 +16,7 @@ decoded-spec =
     (λ c κs. tt)
     (λ c κs. tt)
     (λ c κs. tt)
-    (λ c. plain-figures _ (c .before .before .before .before .before .before .before .before .before .before .before .before .before .before .before .before .before .args .p) _ _ _ _ _ _ _ (c .before .before .before .before .before .before .before .absent .ensures) (c .before .before .before .before .before .before .absent2 .ensures) (c .before .before .before .before .before .absent3 .ensures) (c .before .before .before .before .absent4 .ensures) (c .before .before .before .absent5 .ensures) (c .before .before .absent6 .ensures) (c .before .absent7 .ensures) (c .if1 .taken) _ _ _ (c .before .before .before .before .before .before .before .before .before .before .number-figure .ensures) (c .before .before .before .before .before .before .before .before .before .number-figure2 .ensures) (c .before .before .before .before .before .before .before .before .number-figure3 .ensures))
+    (λ c. plain-figures _ (c .before .before .before .before .before .before .before .before .before .before .before .before .before .before .before .before .before .args .p) _ _ _ _ _ _ _ (c .before .before .before .before .before .before .before .absent .ensures) (c .before .before .before .before .before .before .absent2 .ensures) (c .before .before .before .before .before .absent3 .ensures) (c .before .before .before .before .absent4 .ensures) (c .before .before .before .absent5 .ensures) (c .before .before .absent6 .ensures) (c .before .absent7 .ensures) (c .if1 .taken) _ _ _ (c .before .before .before .before .before .before .before .before .before .before .number-figure .ensures) (c .before .before .before .before .before .before .before .before .before .number-figure2 .ensures) (c .before .before .before .before .before .before .before .before .seldom-figure .ensures))
     (λ c κs. tt)
     (λ c κs. tt)
     (λ c κs. tt)
@@ -30,5 +30,5 @@ decoded-spec =
       crossing = c .before .before .level-in .ensures i;
       second = c .before .level-in2 .ensures i;
       changes = c .plan-figures2 .ensures i;
-      reason = c .before .before .before .before .before .before .before .before .before .before .before .before .before .number-figure3 .ensures i;
+      reason = c .before .before .before .before .before .before .before .before .before .before .before .before .before .seldom-figure .ensures i;
     }))
