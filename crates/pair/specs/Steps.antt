@@ -53,6 +53,23 @@ pub record Next (a b : List ℕ) (σ τ : ℕ → List ℕ) (x y : run.Side) (X 
   pub here : Kept a b σ X first
   pub there : Kept b a τ Y second
 
+-- what comes to a side, a message or an answer, leaves it in step
+received-kept : {a b : List ℕ} {σ : ℕ → List ℕ} {Z : Side} {z : run.Side} → Kept a b σ Z z → (w out : List ℕ) {out′ : List ℕ} {o : Outcome} {m : Memory} (e : End) (s : List ℕ) → receive (length out) w (endIn Z) ≡ done e s → Gives o m out′ e s → Kept a b σ (changed o m Z) (become (viewOf e) z)
+received-kept {Z = Z} K w out {o = o} {m = m} e s q g =
+    let t = receive-sound (length out) w (endIn Z) e s (sound-of (Z .head) (Z .memory) (K .formed)) q in
+    let back : endOf (o .head) m ≡ e = next-end Z e (t .sound) (o .head) m (g .head) (g .memory) in
+    record {
+      formed = next-formed Z e (t .sound) (o .head) m (g .head) (g .memory);
+      ours = ap (λ (u : Head). u .ours) (g .head) ∙ t .ours ∙ K .ours;
+      partners = ap (λ (u : Head). u .partners) (g .head) ∙ t .partners ∙ K .partners;
+      view = ap viewOf (sym back);
+      len = K .len;
+      told = K .told;
+      copies = K .copies;
+      waiting = λ p u k h. K .waiting p u k (receive-holds (length out) w (endIn Z) e s q p u (sym (ap (λ (f : End). get p (f .unanswered)) back) ∙ h));
+      answers = K .answers;
+    }
+
 module _ {a b : List ℕ} {σ τ : ℕ → List ℕ} {X Y : Side} {x y : run.Side} (K : Kept a b σ X x) (L : Kept b a τ Y y) where
   -- nothing has changed
   same : (X′ Y′ : Side) → X′ ≡ X → Y′ ≡ Y → Next a b σ τ x y X′ Y′
@@ -241,14 +258,8 @@ module _ {a b : List ℕ} {σ τ : ℕ → List ℕ} {X Y : Side} {x y : run.Sid
     told-c = subst (Told a b (c .index)) (sym is) (K .told (c .index) lt)
 
     module _ (e : End) (s : List ℕ) (q : receive (length out) (c .text) (endIn Y) ≡ done e s) (g : Gives o m out′ e s) where
-      snd-h : Stays (endIn Y) e
-      snd-h = receive-sound (length out) (c .text) (endIn Y) e s (sound-of (Y .head) (Y .memory) (L .formed)) q
-
       seen-h : (v : ℕ) × Hears (messageIn (c .text) .number) (contentOf (messageIn (c .text))) v (viewOf (endIn Y)) (viewOf e) × (s ≡ answerText (messageIn (c .text)) v) × Answerable (messageIn (c .text)) v
       seen-h = hear-seen (endIn Y) (sound-of (Y .head) (Y .memory) (L .formed)) (c .text) (told-c .says .its) (told-c .says .read) (told-c .says .message) (told-c .directed (Y .head) (L .ours) (L .partners)) (length out) e s q
-
-      back-h : endOf (o .head) m ≡ e
-      back-h = next-end Y e (snd-h .sound) (o .head) m (g .head) (g .memory)
 
       turn-h : run.Turn (script σ) x y (tell (c .index) (seen-h .0) x) (become (viewOf e) y)
       turn-h =
@@ -299,26 +310,13 @@ module _ {a b : List ℕ} {σ τ : ℕ → List ℕ} {X Y : Side} {x y : run.Sid
                 },
               )
 
-      kept-y : Kept b a τ (changed o m Y) (become (viewOf e) y)
-      kept-y = record {
-        formed = next-formed Y e (snd-h .sound) (o .head) m (g .head) (g .memory);
-        ours = ap (λ (u : Head). u .ours) (g .head) ∙ snd-h .ours ∙ L .ours;
-        partners = ap (λ (u : Head). u .partners) (g .head) ∙ snd-h .partners ∙ L .partners;
-        view = ap viewOf (sym back-h);
-        len = L .len;
-        told = L .told;
-        copies = L .copies;
-        waiting = λ p u k h. L .waiting p u k (receive-holds (length out) (c .text) (endIn Y) e s q p u (sym (ap (λ (f : End). get p (f .unanswered)) back-h) ∙ h));
-        answers = L .answers;
-      }
-
       heard-on : Next a b σ τ x y (answered (c .index) (given o out′) X) (changed o m Y)
       heard-on = record {
         first = tell (c .index) (seen-h .0) x;
         second = become (viewOf e) y;
         onward = turns turn-h;
         here = subst (λ (u : Side). Kept a b σ u (tell (c .index) (seen-h .0) x)) (sym to-Z-h) kept-h;
-        there = kept-y;
+        there = received-kept L (c .text) out e s q g;
       }
 
     pub hears-on : Called (receive (length out) (c .text)) (Y .head) (Y .memory) out o m out′ → Next a b σ τ x y (answered (c .index) (given o out′) X) (changed o m Y)
@@ -337,35 +335,16 @@ module _ {a b : List ℕ} {σ τ : ℕ → List ℕ} {X Y : Side} {x y : run.Sid
     answer-c = subst (Heard a b (c .index) (reply .1 .value) (X .head)) (sym (reply .1 .is)) (answer-heard a b (c .index) (σ (c .index)) (K .told (c .index) (reply .0) .says) (reply .1 .value) (reply .1 .may) (X .head) (K .ours) (K .partners))
 
     module _ (e : End) (s : List ℕ) (q : receive (length out) (c .text) (endIn X) ≡ done e s) (g : Gives o m out′ e s) where
-      snd-l : Stays (endIn X) e
-      snd-l = receive-sound (length out) (c .text) (endIn X) e s (sound-of (X .head) (X .memory) (K .formed)) q
-
       seen-l : Learns (messageIn (c .text) .number) (reply .1 .value) (viewOf (endIn X)) (viewOf e)
       seen-l = learn-seen (endIn X) (sound-of (X .head) (X .memory) (K .formed)) (c .text) (answer-c .read) (answer-c .directed) (answer-c .answer) (reply .1 .value) (answer-c .kind) (length out) e s q
-
-      back-l : endOf (o .head) m ≡ e
-      back-l = next-end X e (snd-l .sound) (o .head) m (g .head) (g .memory)
 
       turn-l : run.Turn (script σ) x y (become (viewOf e) x) y
       turn-l =
           run.learns {X = x} {Y = y} {v = viewOf e} (c .index) (reply .1 .value) (omega (arith, reply .0, K .len)) (omega (arith, K .len)) (reply .1 .given)
           (subst (λ (u : View). Learns (num (c .index)) (reply .1 .value) u (viewOf e)) (sym (K .view)) (subst (λ (u : ℕ). Learns u (reply .1 .value) (viewOf (endIn X)) (viewOf e)) (answer-c .number) seen-l))
 
-      kept-l : Kept a b σ (changed o m X) (become (viewOf e) x)
-      kept-l = record {
-        formed = next-formed X e (snd-l .sound) (o .head) m (g .head) (g .memory);
-        ours = ap (λ (u : Head). u .ours) (g .head) ∙ snd-l .ours ∙ K .ours;
-        partners = ap (λ (u : Head). u .partners) (g .head) ∙ snd-l .partners ∙ K .partners;
-        view = ap viewOf (sym back-l);
-        len = K .len;
-        told = K .told;
-        copies = K .copies;
-        waiting = λ p u k h. K .waiting p u k (receive-holds (length out) (c .text) (endIn X) e s q p u (sym (ap (λ (f : End). get p (f .unanswered)) back-l) ∙ h));
-        answers = K .answers;
-      }
-
     pub learns-on : Called (receive (length out) (c .text)) (X .head) (X .memory) out o m out′ → Next a b σ τ x y (changed o m X) Y
     learns-on q = elim (came (receive (length out) (c .text) (endIn X)) (receive-numbered (length out) (c .text) (endIn X)) (X .head) (X .memory) out o m out′ (q .formed (K .formed))) [
       | inl f ↦ same (changed o m X) Y (changed-none X o m (f .2 .head) (f .2 .memory)) refl
-      | inr f ↦ record { first = become (viewOf (f .0)) x; second = y; onward = turns (turn-l (f .0) (f .1) (f .2) (f .3)); here = kept-l (f .0) (f .1) (f .2) (f .3); there = L }
+      | inr f ↦ record { first = become (viewOf (f .0)) x; second = y; onward = turns (turn-l (f .0) (f .1) (f .2) (f .3)); here = received-kept K (c .text) out (f .0) (f .1) (f .2) (f .3); there = L }
     ]
