@@ -1,11 +1,12 @@
 // Words and the single blanks between them, by blocks of sixteen bytes.
 ghost use mathlib.Core.Path.{_≡_};
 ghost use mathlib.Core.Bool.{false};
-ghost use Prim.Native.Nat.{_<_};
+ghost use Prim.Native.Nat.{_≤_, _<_};
 ghost use Rattle.scan.specs.Grammar.{isIn, words as wordsG};
 ghost use lib.ListN.{length};
 ghost use Rattle.scan.specs.declared.Class.the-variants.{Word};
 ghost use Rattle.words.specs.Blocks.{cleanFrom};
+ghost use Rattle.words.specs.Tail.{Tail};
 ghost use Rattle.scan.specs.Scanner.{wordsAt, scan};
 use scan::Class;
 use scan::Scan;
@@ -98,6 +99,32 @@ fn words_ahead(s: &[u8], i: usize, k: usize) -> Ahead
     }
 }
 
+// The last bytes, one by one, up to `end`: there the text ends and more would fit, or no more fits. So one place is held against
+// another for each byte, and how many fit is asked at a blank only.
+fn words_to(s: &[u8], at: usize, end: usize, more: bool, mid: bool) -> Scan
+    requires { ⌜ end ≤ length (now s) ⌝ }
+    ensures { λ q. ⌜ Tail more (now (s .entry)) at end mid q ⌝ }
+{
+    let mut i = at;
+    let mut m = mid;
+    while i < end {
+        let b = s[i];
+        if is_word(b) {
+            m = true;
+            i += 1;
+        } else {
+            let blank = scan::is_in(Class::Byte(b' '), b);
+            if m & blank & (more | (i + 1 < end)) {
+                m = false;
+                i += 1;
+            } else {
+                return Scan { next: i, ok: m };
+            }
+        }
+    }
+    Scan { next: i, ok: m }
+}
+
 // Runs of word bytes with one blank between, at most k bytes.
 pub fn words(s: &[u8], r: Scan, k: usize) -> Scan
     ensures { λ q. ⌜ q ≡ scan (wordsG k) (now (s .entry)) r ⌝ }
@@ -106,28 +133,14 @@ pub fn words(s: &[u8], r: Scan, k: usize) -> Scan
         return r;
     }
     let a = words_ahead(s, r.next, k);
-    let mut i = a.next;
-    let mut left = a.left;
-    let mut m = a.mid;
-    while 0 < left {
-        if s.len() <= i {
-            return Scan { next: i, ok: m };
-        }
-        let b = s[i];
-        if is_word(b) {
-            m = true;
-            i += 1;
-            left -= 1;
-        } else {
-            let blank = scan::is_in(Class::Byte(b' '), b);
-            if m & blank & (1 < left) {
-                m = false;
-                i += 1;
-                left -= 1;
-            } else {
-                return Scan { next: i, ok: m };
-            }
-        }
+    if s.len() <= a.next {
+        return Scan {
+            next: a.next,
+            ok: a.mid,
+        };
     }
-    Scan { next: i, ok: m }
+    if a.left <= s.len() - a.next {
+        return words_to(s, a.next, a.next + a.left, false, a.mid);
+    }
+    words_to(s, a.next, s.len(), true, a.mid)
 }
