@@ -1,2 +1,5 @@
-pub mod Passing
 pub mod Values
+pub mod Locals
+pub mod Passing
+pub mod Onward
+pub mod Lent

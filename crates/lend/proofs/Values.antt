@@ -4,7 +4,7 @@
 --     head-told, record-told, outcome-told     the value of a head (a record, an outcome) is this one
 --     head-in, answer-in                       the fields of an outcome are the values of a head and of an answer
 --     head-made, answer-made                   whoever has such a value owns what its type owns
---     head-typed, answer-typed, record-typed, outcome-typed     it is a value of its type
+--     head-typed, answer-typed, outcome-typed     it is a value of its type
 -- The last line assumes `Given`.
 use mathlib.Core.Path.{_≡_, ap}
 use mathlib.Core.List.{[], _∷_}
@@ -73,9 +73,6 @@ module _ {M : Type 1} (𝓤 : URA M) (H : Heap 𝓤) (A : Atoms 𝓤) (W : Given
 
   pub answer-typed : (x : Answer) (v : Val) → Is Answer·.the-row x (v ∷ []) → Holds (hasTy Answer′.mir v) × WT v
   answer-typed x v is = enum.lawful Answer·.the-type Answer′.the-laws 𝓤 H A W tt .typed x _ is .0
-
-  pub record-typed : (x : Record) (v : Val) → Is Record·.the-row x (v ∷ []) → Holds (hasTy Record′.mir v) × WT v
-  record-typed x v is = struct.lawful Record·.the-type Record′.the-laws 𝓤 H A W .typed x _ is .0
 
   pub outcome-typed : (x : Outcome) (v : Val) → Is Outcome·.the-row x (v ∷ []) → Holds (hasTy Outcome′.mir v) × WT v
   outcome-typed x v is = struct.lawful Outcome·.the-type Outcome′.the-laws 𝓤 H A W .typed x _ is .0
