@@ -26,7 +26,7 @@ use Rattle.types.specs.Sound.{message-good, message-plain, message-longest}
 use Rattle.fields.specs.Names as n
 use Rattle.types.specs.Picking.{lettersOf}
 use Rattle.message.specs.Record.{isChg, kindOf, recordBy, recordOf, blank}
-use Rattle.types.specs.Scanned.{scannedBy}
+use Rattle.types.specs.Scanned.{foundBy, scannedBy, found-all}
 use Rattle.reader.specs.Reading.{hyphens, Judged, answerOf, Answers, cut, route, other, Words}
 
 -- A scan that is whole and reaches the end
@@ -41,19 +41,21 @@ whole s e =
     let l : 0 + longest message < 65536 = omega (arith, message-longest) in
     (f .parts, subst (λ (w : List ℕ). Reads message 0 w (f .parts)) t (f .reads), λ i. recordBy s (λ k. (spot-same k message s (from 0) l ∙ sym (f .here k)) i))
 
-pub read-judged : (s : List ℕ) (q : Scanned) (r : Record) → q ≡ scannedBy message s → passed s (q .end) ≡ true → r ≡ recordBy s (λ k. spot k message s (from 0)) → Judged s Read r
-unfolding scannedBy
-read-judged s q r h e p = subst (Judged s Read) (sym p) (whole s (ap (λ (x : Scanned). passed s (x .end)) (sym h) ∙ e))
+-- then it is what was found
+pub all-found : (s : List ℕ) (q : Scanned) → q ≡ scannedBy message s → passed s (q .end) ≡ true → q ≡ foundBy message s
+all-found s q h e = found-all message s h (and-l (q .end .ok) (eqb (q .end .next) (length s)) e)
 
-pub refused-judged : (s : List ℕ) (q : Scanned) (n : ℕ) (r : Record) → q ≡ scannedBy message s → passed s (q .end) ≡ false → n ≡ hyphens (take (q .end .next) s) → r ≡ blank → Judged s (Refused (q .end .next) n) r
-unfolding scannedBy
-refused-judged s q n r h e c b =
-    let w : q .end ≡ scanAt message s 0 = ap (λ (x : Scanned). x .end) h in (
-      subst (λ (x : Scan). Refusal message s (x .next)) (sym w)
-          (refused message message-good s (λ d. false≢true (sym e ∙ ap (passed s) w ∙ accepts-of message message-good s (scanAt message s 0) refl .1 d))),
-      c,
-      b,
-    )
+-- in what follows x is where the scan ends
+pub read-judged : (s : List ℕ) (x : Scan) (r : Record) → x ≡ scanAt message s 0 → passed s x ≡ true → r ≡ recordBy s (λ k. spot k message s (from 0)) → Judged s Read r
+read-judged s x r w e p = subst (Judged s Read) (sym p) (whole s (ap (passed s) (sym w) ∙ e))
+
+pub refused-judged : (s : List ℕ) (x : Scan) (n : ℕ) (r : Record) → x ≡ scanAt message s 0 → passed s x ≡ false → n ≡ hyphens (take (x .next) s) → r ≡ blank → Judged s (Refused (x .next) n) r
+refused-judged s x n r w e c b = (
+  subst (λ (y : Scan). Refusal message s (y .next)) (sym w)
+      (refused message message-good s (λ d. false≢true (sym e ∙ ap (passed s) w ∙ accepts-of message message-good s (scanAt message s 0) refl .1 d))),
+  c,
+  b,
+)
 
 -- READING LEAVES NO CHOICE
 
@@ -99,16 +101,16 @@ pub record Ruled (s : List ℕ) (v : Verdict) : Type 0 where
   pub by : Judged s v its
 
 pub verdict-right : (s : List ℕ) → Ruled s (verdict s)
-unfolding verdict scannedBy
+unfolding verdict
 verdict-right s = go (known (passed s (scanAt message s 0)))
   where
     go : (passed s (scanAt message s 0) ≡ true) ⊎ (passed s (scanAt message s 0) ≡ false) → Ruled s (cond (passed s (scanAt message s 0)) Read (Refused (scanAt message s 0 .next) (hyphens (take (scanAt message s 0 .next) s))))
     go (inl e) = rw e (record { its = recordBy s (λ k. spot k message s (from 0)); by = whole s e })
-    go (inr e) = rw e (record { its = blank; by = refused-judged s (scannedBy message s) (hyphens (take (scanAt message s 0 .next) s)) blank refl e refl refl })
+    go (inr e) = rw e (record { its = blank; by = refused-judged s (scanAt message s 0) (hyphens (take (scanAt message s 0 .next) s)) blank refl e refl refl })
 
-pub read-verdict : (s : List ℕ) (q : Scanned) → q ≡ scannedBy message s → passed s (q .end) ≡ true → Read ≡ verdict s
-unfolding verdict scannedBy
-read-verdict s q h e = rw (ap (λ (x : Scanned). passed s (x .end)) (sym h) ∙ e)
+pub read-verdict : (s : List ℕ) (x : Scan) → x ≡ scanAt message s 0 → passed s x ≡ true → Read ≡ verdict s
+unfolding verdict
+read-verdict s x w e = rw (ap (passed s) (sym w) ∙ e)
 
 pub verdict-only : (s : List ℕ) (v : Verdict) (r : Record) → Judged s v r → v ≡ verdict s
 verdict-only s v r p = let w = verdict-right s in judged-one s v (verdict s) r (w .its) p (w .by) .verdicts
@@ -137,9 +139,8 @@ judged-by-beginning s = go (verdict (take 1078 s)) refl (verdict-right (take 107
 
 -- what the code's slices ask
 
-pub place-within : (s : List ℕ) (q : Scanned) → q ≡ scannedBy message s → q .end .next ≡ length (take (q .end .next) s)
-unfolding scannedBy
-place-within s q h = sym (length-take-le (q .end .next) s (omega (arith, ap (λ (x : Scanned). x .end .next) h, place message message-good s .within)))
+pub place-within : (s : List ℕ) (x : Scan) → x ≡ scanAt message s 0 → x .next ≡ length (take (x .next) s)
+place-within s x w = sym (length-take-le (x .next) s (omega (arith, ap (λ (y : Scan). y .next) w, place message message-good s .within)))
 
 -- the words of fields 15 and 18 lie within the text
 pub words-within : (s : List ℕ) (v : Verdict) (r : Record) (p : Record → Span) → ((f : ℕ → Span) → (n : ℕ) × (p (recordBy s f) ≡ f n)) → p blank ≡ none → Judged s v r → placeOf (p r) + sizeOf (p r) ≤ length s

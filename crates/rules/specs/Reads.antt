@@ -7,7 +7,6 @@ use lib.ListN.{take}
 use Rattle.scan.specs.Bools.{known}
 use Rattle.scan.specs.Scanner.{from, scanAt, spot}
 use Rattle.types.specs.Messages.{message}
-use Rattle.types.specs.Scanned.{scannedBy}
 use Rattle.message.specs.declared.Record.{Record}
 use Rattle.message.specs.declared.Verdict.the-variants.{Read}
 use Rattle.message.specs.Record.{recordBy, blank}
@@ -26,8 +25,8 @@ messageIn w = messageOf w (readRecord w)
 
 -- the record of a text that is read is this one
 pub read-record : (w : List ℕ) (r : Record) → Judged w Read r → r ≡ readRecord w
-unfolding readRecord scannedBy
-read-record w r j = ⊎-elim (λ e. one-record w r (recordBy w (λ k. spot k message w (from 0))) j (read-judged w (scannedBy message w) _ refl e refl)) (λ e. absurd (refused-judged w (scannedBy message w) (hyphens (take (scanAt message w 0 .next) w)) blank refl e refl refl .0 .never (derived-read w r j))) (known (passed w (scanAt message w 0)))
+unfolding readRecord
+read-record w r j = ⊎-elim (λ e. one-record w r (recordBy w (λ k. spot k message w (from 0))) j (read-judged w (scanAt message w 0) _ refl e refl)) (λ e. absurd (refused-judged w (scanAt message w 0) (hyphens (take (scanAt message w 0 .next) w)) blank refl e refl refl .0 .never (derived-read w r j))) (known (passed w (scanAt message w 0)))
 
 pub read-message : (w : List ℕ) (r : Record) → Judged w Read r → messageOf w r ≡ messageIn w
 read-message w r j = ap (messageOf w) (read-record w r j)

@@ -19,7 +19,7 @@ use Rattle.scan.specs.Scanner.{runAt, runScan, scan, from, scanAt, longer, lead
 use Rattle.scan.specs.Theory.{skip}
 use Rattle.scan.specs.Bounds.{scan-forth, spot-stays}
 use Rattle.types.specs.declared.Scanned.{Scanned}
-use Rattle.types.specs.Scanned.{partsOf, scannedBy}
+use Rattle.types.specs.Scanned.{partsOf, foundBy, stoppedAt}
 
 -- A given text
 
@@ -158,8 +158,8 @@ module _ (s : List ℕ) where
       same false = refl
 
   -- where no key is the text's beginning, only the keys are looked at, and no part is there
-  pub missed : (x : Arm) (xs : List Arm) → Misses (take 4 s) x xs → record { end = scanAt (keysOf x xs) s 0; parts = partsOf (λ _. none) } ≡ scannedBy (altOf x xs) s
-  unfolding scannedBy
+  pub missed : (x : Arm) (xs : List Arm) → Misses (take 4 s) x xs → stoppedAt (scanAt (keysOf x xs) s 0) ≡ foundBy (altOf x xs) s
+  unfolding foundBy
   missed x xs m = sym (λ i. record { end = missed-end x xs m i; parts = partsOf (λ n. missed-spot x xs m n i) })
 
   missed-short : (x : Arm) (xs : List Arm) → Misses (take 4 s) x xs → scanAt (altOf x xs) s 0 .next < 4
@@ -170,12 +170,12 @@ module _ (s : List ℕ) where
       longer-short : (p q : Scan) → p .next < 4 → q .next < 4 → longer p q .next < 4
       longer-short p q h k = ⊎-elim (λ e. rw e k) (λ e. rw e (⊎-elim (λ f. rw f h) (λ f. rw f h) (known (ltb (q .next) (p .next))))) (known (ltb (p .next) (q .next)))
 
-  first-picked : (p q : G) → scanAt q s 0 .next < scanAt p s 0 .next → scannedBy (alt p q) s ≡ scannedBy p s
-  unfolding scannedBy longer leads spanBy
+  first-picked : (p q : G) → scanAt q s 0 .next < scanAt p s 0 .next → foundBy (alt p q) s ≡ foundBy p s
+  unfolding foundBy longer leads spanBy
   first-picked p q h = rw (le-ltb (scanAt p s 0 .next) (scanAt q s 0 .next) (omega arith), lt-ltb (scanAt q s 0 .next) (scanAt p s 0 .next) h)
 
-  second-picked : (p q : G) → scanAt p s 0 .next < scanAt q s 0 .next → scannedBy (alt p q) s ≡ scannedBy q s
-  unfolding scannedBy longer leads spanBy
+  second-picked : (p q : G) → scanAt p s 0 .next < scanAt q s 0 .next → foundBy (alt p q) s ≡ foundBy q s
+  unfolding foundBy longer leads spanBy
   second-picked p q h = rw (lt-ltb (scanAt p s 0 .next) (scanAt q s 0 .next) h)
 
 abbrev same : ℕ → ℕ → ℕ → Arm → Bool
@@ -223,15 +223,15 @@ module _ (a b c : ℕ) (s : List ℕ) (e : take 4 s ≡ 40 ∷ a ∷ b ∷ c ∷
       omega (arith, led-forth (keyOf x) (x .led) s (from 0), ap (λ (r : Scan). r .next) h)
 
   -- the arm with the text's letters does the whole scan
-  picked-long : (x : Arm) (xs : List Arm) → once a b c x xs ≡ true → (scannedBy (altOf x xs) s ≡ scannedBy (armOf a b c x xs) s) × (4 ≤ scanAt (altOf x xs) s 0 .next)
-  unfolding scannedBy
+  picked-long : (x : Arm) (xs : List Arm) → once a b c x xs ≡ true → (foundBy (altOf x xs) s ≡ foundBy (armOf a b c x xs) s) × (4 ≤ scanAt (altOf x xs) s 0 .next)
+  unfolding foundBy
   picked-long x [] o = (refl, hit x o)
   picked-long x (y ∷ ys) o = go (known (same a b c x)) (picked-long y ys)
     where
-      ends : (p q : G) → scannedBy p s ≡ scannedBy q s → scanAt p s 0 .next ≡ scanAt q s 0 .next
+      ends : (p q : G) → foundBy p s ≡ foundBy q s → scanAt p s 0 .next ≡ scanAt q s 0 .next
       ends p q h = ap (λ (z : Scanned). z .end .next) h
 
-      go : (same a b c x ≡ true) ⊎ (same a b c x ≡ false) → (once a b c y ys ≡ true → (scannedBy (altOf y ys) s ≡ scannedBy (armOf a b c y ys) s) × (4 ≤ scanAt (altOf y ys) s 0 .next)) → (scannedBy (altOf x (y ∷ ys)) s ≡ scannedBy (armOf a b c x (y ∷ ys)) s) × (4 ≤ scanAt (altOf x (y ∷ ys)) s 0 .next)
+      go : (same a b c x ≡ true) ⊎ (same a b c x ≡ false) → (once a b c y ys ≡ true → (foundBy (altOf y ys) s ≡ foundBy (armOf a b c y ys) s) × (4 ≤ scanAt (altOf y ys) s 0 .next)) → (foundBy (altOf x (y ∷ ys)) s ≡ foundBy (armOf a b c x (y ∷ ys)) s) × (4 ≤ scanAt (altOf x (y ∷ ys)) s 0 .next)
       go (inl h) r =
           let m = missed-short s y ys (nowhere-misses y ys (rw h at o)) in
           let l = hit x h in
@@ -243,5 +243,5 @@ module _ (a b c : ℕ) (s : List ℕ) (e : take 4 s ≡ 40 ∷ a ∷ b ∷ c ∷
           let p = second-picked s (x .g) (altOf y ys) (omega arith) in
           (p ∙ w .0 ∙ rw h, omega (arith, ends (alt (x .g) (altOf y ys)) (altOf y ys) p))
 
-  pub picked : (x : Arm) (xs : List Arm) → once a b c x xs ≡ true → scannedBy (armOf a b c x xs) s ≡ scannedBy (altOf x xs) s
+  pub picked : (x : Arm) (xs : List Arm) → once a b c x xs ≡ true → foundBy (armOf a b c x xs) s ≡ foundBy (altOf x xs) s
   picked x xs o = sym (picked-long x xs o .0)

@@ -4,11 +4,11 @@ use mathlib.Core.List.{List, [], _∷_, head-eq-of-cons-eq}
 use Prim.Native.Nat.{ℕ, _+_, _*_, _≤_, _<_}
 use native.Mathlib.Omega.{arith}
 use lib.ListN.{length, getD, take, length-take}
-use Rattle.scan.specs.Grammar.{G, none}
+use Rattle.scan.specs.Grammar.{G}
 use Rattle.scan.specs.Scanner.{scanAt}
 use Rattle.types.specs.declared.Scanned.{Scanned}
 use Rattle.types.specs.Messages.{fpl, cpl, est, chg, cnl, rti, rta, rla, lam, lrm, message}
-use Rattle.types.specs.Scanned.{partsOf, scannedBy}
+use Rattle.types.specs.Scanned.{scannedBy, stoppedAt, told, told-stopped}
 use Rattle.types.specs.Arms.{Arm, led-lit, led-seq, altOf, keysOf, Misses, all-miss, missed, picked, once, armOf}
 use mathlib.Core.Bool.{true}
 
@@ -96,6 +96,7 @@ typed s h o a b c = record { long = h; opens = o; one = a; two = b; three = c }
 
 -- a text is scanned as the message whose letters it has
 pub picked-by : (a b c : ℕ) → a < 256 → b < 256 → c < 256 → once a b c fplArm otherArms ≡ true → (s : List ℕ) (q : Scanned) → Typed s → lettersOf s ≡ lettersAs a b c → q ≡ scannedBy (armOf a b c fplArm otherArms) s → q ≡ scannedBy message s
+unfolding scannedBy
 picked-by a b c k l m o s q t w e =
     let h = t .one in
     let i = t .two in
@@ -103,14 +104,15 @@ picked-by a b c k l m o s q t w e =
     let x : getD s 1 0 ≡ a = omega arith in
     let y : getD s 2 0 ≡ b = omega arith in
     let z : getD s 3 0 ≡ c = omega arith in
-    e ∙ picked a b c s (take4 s (t .long) ∙ rw (t .opens, x, y, z)) fplArm otherArms o ∙ ap {B = Scanned} (λ (g : G). scannedBy g s) message-arms
+    e ∙ ap told (picked a b c s (take4 s (t .long) ∙ rw (t .opens, x, y, z)) fplArm otherArms o) ∙ ap {B = Scanned} (λ (g : G). scannedBy g s) message-arms
 
 -- no type begins so
 abbrev pub unknownOf : List ℕ → Scanned
-unknownOf s = record { end = scanAt (keysOf fplArm otherArms) s 0; parts = partsOf (λ _. none) }
+unknownOf s = stoppedAt (scanAt (keysOf fplArm otherArms) s 0)
 
 pub unknown-missed : (s : List ℕ) (q : Scanned) → Misses (take 4 s) fplArm otherArms → q ≡ unknownOf s → q ≡ scannedBy message s
-unknown-missed s q m e = e ∙ missed s fplArm otherArms m ∙ ap {B = Scanned} (λ (g : G). scannedBy g s) message-arms
+unfolding scannedBy
+unknown-missed s q m e = e ∙ told-stopped (scanAt (keysOf fplArm otherArms) s 0) ∙ ap told (missed s fplArm otherArms m) ∙ ap {B = Scanned} (λ (g : G). scannedBy g s) message-arms
 
 pub short-misses : (s : List ℕ) → length s < 4 → Misses (take 4 s) fplArm otherArms
 short-misses s h = all-miss (take 4 s) (λ a b c e. omega (arith, ap length e, length-take 4 s)) fplArm otherArms

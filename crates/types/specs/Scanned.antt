@@ -1,9 +1,13 @@
 -- What the scan of each message finds.
+use mathlib.Core.Path.{_≡_, refl, sym, ap, _∙_}
+use mathlib.Core.Bool.{Bool, true, false, cond, not}
 use mathlib.Core.List.{List}
+use borrow.Author.Tests.{not-true, not-false}
 use Prim.Native.Nat.{ℕ}
 use Rattle.scan.specs.declared.Scan.{Scan}
 use Rattle.scan.specs.Grammar.{Span, G, none}
 use Rattle.scan.specs.Scanner.{scan, from, scanAt, spot}
+use Rattle.scan.specs.Picks.{Begins, begins-stays}
 use Rattle.fields.specs.Names as n
 use Rattle.fields.specs.Fields.{_─_, g07, g08, g09, g10}
 use Rattle.fields.specs.declared.Found13.{Found13}
@@ -50,8 +54,54 @@ openedBy g s = record {
 unfoldable pub frontOf : List ℕ → Scan → Leading
 frontOf s r = record { end = scan (g07 0 ─ g08 0 ─ g09 0 ─ g10 0) s r; plan = planOf (λ k. spot k (g07 0 ─ g08 0 ─ g09 0 ─ g10 0) s r) }
 
+unfoldable pub foundBy : G → List ℕ → Scanned
+foundBy g s = record { end = scanAt g s 0; parts = partsOf (λ k. spot k g s (from 0)) }
+
+-- a text that stops at e has no parts
+abbrev pub stoppedAt : Scan → Scanned
+stoppedAt e = record { end = e; parts = partsOf (λ _. none) }
+
+abbrev pub told : Scanned → Scanned
+told q = cond (q .end .ok) q (stoppedAt (q .end))
+
+-- WHAT THE SCAN OF A MESSAGE SAYS: where it ends, and, where it is whole, where the parts stand; else none is there
 unfoldable pub scannedBy : G → List ℕ → Scanned
-scannedBy g s = record { end = scanAt g s 0; parts = partsOf (λ k. spot k g s (from 0)) }
+scannedBy g s = told (foundBy g s)
+
+module _ (g : G) (s : List ℕ) where
+  pub ends : {q : Scanned} → q ≡ scannedBy g s → q .end ≡ scanAt g s 0
+  unfolding scannedBy foundBy
+  ends e = ap (λ (x : Scanned). x .end) e ∙ go (scanAt g s 0 .ok)
+    where
+      go : (b : Bool) → cond b (foundBy g s) (stoppedAt (scanAt g s 0)) .end ≡ scanAt g s 0
+      go true = refl
+      go false = refl
+
+  told-whole : scanAt g s 0 .ok ≡ true → foundBy g s ≡ scannedBy g s
+  unfolding scannedBy foundBy
+  told-whole o = rw o
+
+  -- where it is whole, it is what was found
+  pub found-all : {q : Scanned} → q ≡ scannedBy g s → q .end .ok ≡ true → q ≡ foundBy g s
+  found-all e o = e ∙ sym (told-whole (ap (λ (x : Scan). x .ok) (sym (ends e)) ∙ o))
+
+  pub tells : (e : Scan) {q : Scanned} → e ≡ scanAt g s 0 → not (e .ok) ≡ false → q ≡ foundBy g s → q ≡ scannedBy g s
+  tells e p n w = w ∙ told-whole (ap (λ (x : Scan). x .ok) (sym p) ∙ not-false (e .ok) n)
+
+-- where the beginning of a message stops, the message does
+pub stops : {h g : G} → Begins h g → (s : List ℕ) (e : Scan) {q : Scanned} → e ≡ scanAt h s 0 → not (e .ok) ≡ true → q ≡ stoppedAt e → q ≡ scannedBy g s
+unfolding scannedBy foundBy
+stops {h} {g} b s e p n w =
+    let o = not-true (e .ok) n in
+    let x : e ≡ scanAt g s 0 = p ∙ sym (begins-stays b s (from 0) (ap (λ (y : Scan). y .ok) (sym p) ∙ o)) in
+    w ∙ ap stoppedAt x ∙ rw (ap (λ (y : Scan). y .ok) (sym x) ∙ o)
+
+pub told-stopped : (e : Scan) → stoppedAt e ≡ told (stoppedAt e)
+told-stopped e = go (e .ok)
+  where
+    go : (b : Bool) → stoppedAt e ≡ cond b (stoppedAt e) (stoppedAt e)
+    go true = refl
+    go false = refl
 
 -- WHAT THE PARTS OF A MESSAGE ARE PUT TOGETHER FROM
 

@@ -8,7 +8,7 @@ ghost use Rattle.scan.specs.Texts.{lit};
 ghost use Rattle.scan.specs.Scanner.{scanAt};
 ghost use Rattle.changes.specs.Found.{noPlan};
 ghost use Rattle.types.specs.Messages.{opened as openedG, referring as referringG, fpl as fplG, cpl as cplG, est as estG, chg as chgG, cnl as cnlG, rti as rtiG, rta as rtaG, rla as rlaG, lam as lamG, lrm as lrmG, message as messageG};
-ghost use Rattle.types.specs.Scanned.{partsOf, noNumber, noEstimate, openedBy, frontOf, scannedBy, estimateOf, namedBy, filedBy, currentBy, wholeBy};
+ghost use Rattle.types.specs.Scanned.{partsOf, noNumber, noEstimate, openedBy, frontOf, scannedBy, stoppedAt, estimateOf, namedBy, filedBy, currentBy, wholeBy};
 ghost use Rattle.types.specs.Arms.{keysOf};
 ghost use Rattle.types.specs.Picking.{unknownOf, fplArm, otherArms, lettersOf};
 use changes::Plan;
@@ -295,7 +295,17 @@ fn planned(end: Scan, h: Heading, own: Plan) -> Scanned
     plain(end, h, own, no_estimate(), n, n)
 }
 
-// ---- the ten types
+// A text that stops at `end`: it has no parts.
+fn stopped(end: Scan) -> Scanned
+    ensures { λ q. ⌜ q ≡ stoppedAt end ⌝ }
+{
+    Scanned {
+        end,
+        parts: no_parts(),
+    }
+}
+
+// ---- the ten types. Most texts that are refused stop before their last fields, so the longer types have a way out on the way.
 
 fn fpl(s: &[u8]) -> Scanned
     ensures { λ q. ⌜ q ≡ scannedBy fplG (now (s .entry)) ⌝ }
@@ -304,6 +314,9 @@ fn fpl(s: &[u8]) -> Scanned
     let e = h.end;
     let f = front(s, scan::byte(s, e, b'-'));
     let e1 = f.end;
+    if !e1.ok {
+        return stopped(e1);
+    }
     let d = plan_fields::field13(s, scan::byte(s, e1, b'-'));
     let e2 = d.end;
     let r = plan_fields::field15(s, scan::byte(s, e2, b'-'));
@@ -313,6 +326,9 @@ fn fpl(s: &[u8]) -> Scanned
     let o = fields::field18(s, scan::byte(s, e4, b'-'));
     let e5 = o.end;
     let end = scan::byte(s, e5, b')');
+    if !end.ok {
+        return stopped(end);
+    }
     let plan = filed(f, d, r, a, o);
     planned(end, h, plan)
 }
@@ -324,6 +340,9 @@ fn cpl(s: &[u8]) -> Scanned
     let e = h.end;
     let f = front(s, scan::byte(s, e, b'-'));
     let e1 = f.end;
+    if !e1.ok {
+        return stopped(e1);
+    }
     let e2 = scan::byte(s, e1, b'-');
     let e3 = scan::letters(s, e2, 4);
     let x = points::field14(s, scan::byte(s, e3, b'-'));
@@ -335,6 +354,9 @@ fn cpl(s: &[u8]) -> Scanned
     let o = fields::field18(s, scan::byte(s, e7, b'-'));
     let e8 = o.end;
     let end = scan::byte(s, e8, b')');
+    if !end.ok {
+        return stopped(end);
+    }
     let departure = scan::between(e2, e3);
     let destination = scan::between(e6, e7);
     let plan = current(f, departure, r, destination, o);
@@ -351,11 +373,17 @@ fn est(s: &[u8]) -> Scanned
     let e1 = i.end;
     let e2 = scan::byte(s, e1, b'-');
     let e3 = scan::letters(s, e2, 4);
+    if !e3.ok {
+        return stopped(e3);
+    }
     let x = points::field14(s, scan::byte(s, e3, b'-'));
     let e4 = x.end;
     let e5 = scan::byte(s, e4, b'-');
     let e6 = scan::letters(s, e5, 4);
     let end = scan::byte(s, e6, b')');
+    if !end.ok {
+        return stopped(end);
+    }
     let departure = scan::between(e2, e3);
     let destination = scan::between(e5, e6);
     let n = scan::none();
@@ -374,9 +402,15 @@ fn chg(s: &[u8]) -> Scanned
     let e3 = d.end;
     let e4 = scan::byte(s, e3, b'-');
     let e5 = scan::letters(s, e4, 4);
+    if !e5.ok {
+        return stopped(e5);
+    }
     let c = changes::changed(s, scan::byte(s, e5, b'-'));
     let e6 = c.end;
     let end = scan::byte(s, e6, b')');
+    if !end.ok {
+        return stopped(end);
+    }
     let aircraft = scan::between(e1, e2);
     let destination = scan::between(e4, e5);
     let n = scan::none();
@@ -403,9 +437,15 @@ fn cnl(s: &[u8]) -> Scanned
     let e3 = d.end;
     let e4 = scan::byte(s, e3, b'-');
     let e5 = scan::letters(s, e4, 4);
+    if !e5.ok {
+        return stopped(e5);
+    }
     let o = fields::field18(s, scan::byte(s, e5, b'-'));
     let e6 = o.end;
     let end = scan::byte(s, e6, b')');
+    if !end.ok {
+        return stopped(end);
+    }
     let aircraft = scan::between(e1, e2);
     let destination = scan::between(e4, e5);
     let n = scan::none();
@@ -432,11 +472,17 @@ fn rti(s: &[u8]) -> Scanned
     let e3 = scan::letters(s, e2, 4);
     let e4 = scan::byte(s, e3, b'-');
     let e5 = scan::letters(s, e4, 4);
+    if !e5.ok {
+        return stopped(e5);
+    }
     let e6 = scan::byte(s, e5, b'-');
     let e7 = words::words(s, e6, 20);
     let e8 = scan::byte(s, e7, b'-');
     let e9 = words::words(s, e8, 60);
     let end = scan::byte(s, e9, b')');
+    if !end.ok {
+        return stopped(end);
+    }
     let departure = scan::between(e2, e3);
     let destination = scan::between(e4, e5);
     let sector = scan::between(e6, e7);
@@ -457,9 +503,15 @@ fn rta(s: &[u8]) -> Scanned
     let e4 = scan::letters(s, e3, 4);
     let e5 = scan::byte(s, e4, b'-');
     let e6 = scan::letters(s, e5, 4);
+    if !e6.ok {
+        return stopped(e6);
+    }
     let e7 = scan::byte(s, e6, b'-');
     let e8 = words::words(s, e7, 20);
     let end = scan::byte(s, e8, b')');
+    if !end.ok {
+        return stopped(end);
+    }
     let aircraft = scan::between(e1, e2);
     let departure = scan::between(e3, e4);
     let destination = scan::between(e5, e6);
@@ -477,6 +529,9 @@ fn rla(s: &[u8]) -> Scanned
     let e1 = scan::byte(s, e, b'-');
     let e2 = words::words(s, e1, 20);
     let end = scan::byte(s, e2, b')');
+    if !end.ok {
+        return stopped(end);
+    }
     let sector = scan::between(e1, e2);
     let n = scan::none();
     plain(end, h, changes::no_plan(), no_estimate(), sector, n)
@@ -488,6 +543,9 @@ fn lam(s: &[u8]) -> Scanned
     let h = referring(s, b'L', b'A', b'M');
     let e = h.end;
     let end = scan::byte(s, e, b')');
+    if !end.ok {
+        return stopped(end);
+    }
     planned(end, h, changes::no_plan())
 }
 
@@ -500,6 +558,9 @@ fn lrm(s: &[u8]) -> Scanned
     let e2 = scan::lit(s, e1, b"RMK/");
     let e3 = scan::digits(s, e2, 2);
     let end = scan::byte(s, e3, b')');
+    if !end.ok {
+        return stopped(end);
+    }
     let reason = scan::between(e2, e3);
     let n = scan::none();
     let plan = changes::no_plan();
@@ -550,10 +611,7 @@ fn keys(s: &[u8]) -> Scan
 fn unknown(s: &[u8]) -> Scanned
     ensures { λ q. ⌜ q ≡ unknownOf (now (s .entry)) ⌝ }
 {
-    Scanned {
-        end: keys(s),
-        parts: no_parts(),
-    }
+    stopped(keys(s))
 }
 
 // The three letters of the type as one number.

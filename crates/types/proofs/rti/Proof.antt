@@ -2,31 +2,63 @@ use mathlib.Core.Path.{_∙_}
 use Rattle.scan.specs.declared.Class.the-variants.{Letter}
 use Rattle.scan.specs.Grammar.{run, words, none}
 use Rattle.scan.specs.Texts.{byte}
+use Rattle.scan.specs.Picks.{it, in-seq, then}
 use Rattle.scan.specs.Scanner.{scan, among, occurs, between16, spanBy}
 use Rattle.scan.specs.Bounds.{forth}
 use Rattle.fields.specs.Found.{found07}
 use Rattle.changes.specs.Found.{noPlan}
 use Rattle.types.specs.Messages.{rti}
-use Rattle.types.specs.Scanned.{openedBy, scannedBy, namedBy, wholeBy}
+use Rattle.types.specs.Scanned.{openedBy, foundBy, namedBy, wholeBy, stops, tells}
 use Rattle.types.proofs.rti.Statement.{statement}
 use Rattle.types.proofs.rti.Tie as tie
 
 returns : tie.Need-returns
-unfolding scannedBy openedBy rti among occurs spanBy
+unfolding foundBy openedBy rti among occurs spanBy
 returns c =
-    let s = c .before .before .before .before .before .before .before .before .before .before .before .before .before .before .before .before .before .before .before .before .before .before .before .args .s .now in
-    let p0 = c .before .before .before .before .before .before .before .before .before .before .before .before .before .before .before .before .before .before .before .before .before .referring .ensures in
-    let p1 = c .before .before .before .before .before .before .before .before .before .before .before .before .before .before .before .before .before .before .before .byte .ensures ∙ (λ i. scan (byte 45) s (p0 i .end)) in
-    let p2 = c .before .before .before .before .before .before .before .before .before .before .before .before .before .before .before .before .before .before .field07 .ensures ∙ (λ i. found07 0 s (p1 i)) in
-    let p3 = c .before .before .before .before .before .before .before .before .before .before .before .before .before .before .before .before .byte2 .ensures ∙ (λ i. scan (byte 45) s (p2 i .end)) in
-    let p4 = c .before .before .before .before .before .before .before .before .before .before .before .before .before .before .before .letters .ensures ∙ (λ i. scan (run Letter 4 4) s (p3 i)) in
-    let p5 = c .before .before .before .before .before .before .before .before .before .before .before .before .before .before .byte3 .ensures ∙ (λ i. scan (byte 45) s (p4 i)) in
-    let p6 = c .before .before .before .before .before .before .before .before .before .before .before .before .before .letters2 .ensures ∙ (λ i. scan (run Letter 4 4) s (p5 i)) in
-    let p7 = c .before .before .before .before .before .before .before .before .before .before .before .before .byte4 .ensures ∙ (λ i. scan (byte 45) s (p6 i)) in
-    let p8 = c .before .before .before .before .before .before .before .before .before .before .before .words .ensures ∙ (λ i. scan (words 20) s (p7 i)) in
-    let p9 = c .before .before .before .before .before .before .before .before .before .before .byte5 .ensures ∙ (λ i. scan (byte 45) s (p8 i)) in
-    let p10 = c .before .before .before .before .before .before .before .before .before .words2 .ensures ∙ (λ i. scan (words 60) s (p9 i)) in
-    let p11 = c .before .before .before .before .before .before .before .before .byte6 .ensures ∙ (λ i. scan (byte 41) s (p10 i)) in
+    let s = c .before .before .before .before .before .before .before .before .before .before .before .before .before .args .s .now in
+    let p0 = c .before .before .before .before .before .before .before .before .before .before .before .referring .ensures in
+    let p1 = c .before .before .before .before .before .before .before .before .before .byte .ensures ∙ (λ i. scan (byte 45) s (p0 i .end)) in
+    let p2 = c .before .before .before .before .before .before .before .before .field07 .ensures ∙ (λ i. found07 0 s (p1 i)) in
+    let p3 = c .before .before .before .before .before .before .byte2 .ensures ∙ (λ i. scan (byte 45) s (p2 i .end)) in
+    let p4 = c .before .before .before .before .before .letters .ensures ∙ (λ i. scan (run Letter 4 4) s (p3 i)) in
+    let p5 = c .before .before .before .before .byte3 .ensures ∙ (λ i. scan (byte 45) s (p4 i)) in
+    let p6 = c .before .before .before .letters2 .ensures ∙ (λ i. scan (run Letter 4 4) s (p5 i)) in
+    stops (then (then (then (then (then (then (in-seq it))))))) s _ p6 (c .before .if1 .taken) (c .stopped .ensures)
+
+returns-2 : tie.Need-returns-2
+unfolding foundBy openedBy rti among occurs spanBy
+returns-2 c =
+    let s = c .before .before .before .before .before .before .before .before .before .before .before .before .before .before .before .before .before .before .before .before .args .s .now in
+    let p0 = c .before .before .before .before .before .before .before .before .before .before .before .before .before .before .before .before .before .before .referring .ensures in
+    let p1 = c .before .before .before .before .before .before .before .before .before .before .before .before .before .before .before .before .byte .ensures ∙ (λ i. scan (byte 45) s (p0 i .end)) in
+    let p2 = c .before .before .before .before .before .before .before .before .before .before .before .before .before .before .before .field07 .ensures ∙ (λ i. found07 0 s (p1 i)) in
+    let p3 = c .before .before .before .before .before .before .before .before .before .before .before .before .before .byte2 .ensures ∙ (λ i. scan (byte 45) s (p2 i .end)) in
+    let p4 = c .before .before .before .before .before .before .before .before .before .before .before .before .letters .ensures ∙ (λ i. scan (run Letter 4 4) s (p3 i)) in
+    let p5 = c .before .before .before .before .before .before .before .before .before .before .before .byte3 .ensures ∙ (λ i. scan (byte 45) s (p4 i)) in
+    let p6 = c .before .before .before .before .before .before .before .before .before .before .letters2 .ensures ∙ (λ i. scan (run Letter 4 4) s (p5 i)) in
+    let p7 = c .before .before .before .before .before .before .before .byte4 .ensures ∙ (λ i. scan (byte 45) s (p6 i)) in
+    let p8 = c .before .before .before .before .before .before .words .ensures ∙ (λ i. scan (words 20) s (p7 i)) in
+    let p9 = c .before .before .before .before .before .byte5 .ensures ∙ (λ i. scan (byte 45) s (p8 i)) in
+    let p10 = c .before .before .before .before .words2 .ensures ∙ (λ i. scan (words 60) s (p9 i)) in
+    let p11 = c .before .before .before .byte6 .ensures ∙ (λ i. scan (byte 41) s (p10 i)) in
+    stops it s _ p11 (c .before .if2 .taken) (c .stopped2 .ensures)
+
+returns-3 : tie.Need-returns-3
+unfolding foundBy openedBy rti among occurs spanBy
+returns-3 c =
+    let s = c .before .before .before .before .before .before .before .before .before .before .before .before .before .before .before .before .before .before .before .before .before .before .before .before .before .before .before .args .s .now in
+    let p0 = c .before .before .before .before .before .before .before .before .before .before .before .before .before .before .before .before .before .before .before .before .before .before .before .before .before .referring .ensures in
+    let p1 = c .before .before .before .before .before .before .before .before .before .before .before .before .before .before .before .before .before .before .before .before .before .before .before .byte .ensures ∙ (λ i. scan (byte 45) s (p0 i .end)) in
+    let p2 = c .before .before .before .before .before .before .before .before .before .before .before .before .before .before .before .before .before .before .before .before .before .before .field07 .ensures ∙ (λ i. found07 0 s (p1 i)) in
+    let p3 = c .before .before .before .before .before .before .before .before .before .before .before .before .before .before .before .before .before .before .before .before .byte2 .ensures ∙ (λ i. scan (byte 45) s (p2 i .end)) in
+    let p4 = c .before .before .before .before .before .before .before .before .before .before .before .before .before .before .before .before .before .before .before .letters .ensures ∙ (λ i. scan (run Letter 4 4) s (p3 i)) in
+    let p5 = c .before .before .before .before .before .before .before .before .before .before .before .before .before .before .before .before .before .before .byte3 .ensures ∙ (λ i. scan (byte 45) s (p4 i)) in
+    let p6 = c .before .before .before .before .before .before .before .before .before .before .before .before .before .before .before .before .before .letters2 .ensures ∙ (λ i. scan (run Letter 4 4) s (p5 i)) in
+    let p7 = c .before .before .before .before .before .before .before .before .before .before .before .before .before .before .byte4 .ensures ∙ (λ i. scan (byte 45) s (p6 i)) in
+    let p8 = c .before .before .before .before .before .before .before .before .before .before .before .before .before .words .ensures ∙ (λ i. scan (words 20) s (p7 i)) in
+    let p9 = c .before .before .before .before .before .before .before .before .before .before .before .before .byte5 .ensures ∙ (λ i. scan (byte 45) s (p8 i)) in
+    let p10 = c .before .before .before .before .before .before .before .before .before .before .before .words2 .ensures ∙ (λ i. scan (words 60) s (p9 i)) in
+    let p11 = c .before .before .before .before .before .before .before .before .before .before .byte6 .ensures ∙ (λ i. scan (byte 41) s (p10 i)) in
     let p12 = c .before .before .before .before .before .before .before .between .ensures ∙ (λ i. between16 (p3 i) (p4 i)) in
     let p13 = c .before .before .before .before .before .before .between2 .ensures ∙ (λ i. between16 (p5 i) (p6 i)) in
     let p14 = c .before .before .before .before .before .between3 .ensures ∙ (λ i. between16 (p7 i) (p8 i)) in
@@ -35,7 +67,7 @@ returns c =
     let p17 = c .before .before .named .ensures ∙ (λ i. namedBy (p2 i .aircraft) (p2 i .code) (p12 i) (p16 i) (p13 i) (p16 i) (p16 i)) in
     let p18 = c .before .no-estimate .ensures in
     let p19 = c .plain .ensures ∙ (λ i. wholeBy (p11 i) (p0 i) (p17 i) (p18 i) noPlan (p14 i) (p15 i) none) in
-    p19
+    tells rti s _ p11 (c .before .before .before .before .before .before .before .before .if2 .left) p19
 
 pub rti-spec : {M : Type 1} → statement M
-rti-spec = tie.close (tie.spec (λ c κs. tt) (λ c κs. tt) (λ c κs. tt) (λ c κs. tt) (λ c κs. tt) (λ c κs. tt) (λ c κs. tt) (λ c κs. tt) (λ c κs. tt) (λ c κs. tt) (λ c κs. tt) (λ c κs. tt) (λ c κs. forth (run Letter 4 4) _ _ _ (c .before .before .before .before .before .before .before .letters .ensures)) (λ c κs. forth (run Letter 4 4) _ _ _ (c .before .before .before .before .before .before .letters2 .ensures)) (λ c κs. forth (words 20) _ _ _ (c .before .before .before .before .before .words .ensures)) (λ c κs. forth (words 60) _ _ _ (c .before .before .before .before .words2 .ensures)) (λ c κs. tt) (λ c κs. tt) (λ c κs. tt) (λ c κs. tt) returns)
+rti-spec = tie.close (tie.spec (λ c κs. tt) (λ c κs. tt) (λ c κs. tt) (λ c κs. tt) (λ c κs. tt) (λ c κs. tt) (λ c κs. tt) (λ c κs. tt) returns (λ c κs. tt) (λ c κs. tt) (λ c κs. tt) (λ c κs. tt) (λ c κs. tt) (λ c κs. tt) returns-2 (λ c κs. forth (run Letter 4 4) _ _ _ (c .before .before .before .before .before .before .before .before .before .before .before .letters .ensures)) (λ c κs. forth (run Letter 4 4) _ _ _ (c .before .before .before .before .before .before .before .before .before .before .letters2 .ensures)) (λ c κs. forth (words 20) _ _ _ (c .before .before .before .before .before .before .before .words .ensures)) (λ c κs. forth (words 60) _ _ _ (c .before .before .before .before .before .before .words2 .ensures)) (λ c κs. tt) (λ c κs. tt) (λ c κs. tt) (λ c κs. tt) returns-3)

@@ -7,4 +7,4 @@ unknown-spec =
     (tie.spec
     (λ c κs. tt)
     (λ c κs. tt)
-    (λ c. rw (c .no-parts .ensures, c .before .keys .ensures)))
+    (λ c. rw (c .stopped .ensures, c .before .keys .ensures)))
