@@ -10,12 +10,9 @@ use Rattle.types.proofs.lam.Statement.{statement}
 use Rattle.types.proofs.lam.Tie as tie
 
 returns : tie.Need-returns
-unfolding foundBy openedBy lam among occurs spanBy
+unfolding openedBy lam
 returns c =
-    let s = c .before .before .before .before .before .before .before .args .s .now in
-    let p0 = c .before .before .before .before .before .referring .ensures in
-    let p1 = c .before .before .before .byte .ensures ∙ (λ i. scan (byte 41) s (p0 i .end)) in
-    stops it s _ p1 (c .before .if1 .taken) (c .stopped .ensures)
+    stops it (c .before .before .before .before .before .before .before .args .s .now) _ (rw (c .before .before .before .byte .ensures, c .before .before .before .before .before .referring .ensures)) (c .before .if1 .taken) (c .stopped .ensures)
 
 returns-2 : tie.Need-returns-2
 unfolding foundBy openedBy lam among occurs spanBy

@@ -13,15 +13,9 @@ use Rattle.types.proofs.lrm.Statement.{statement}
 use Rattle.types.proofs.lrm.Tie as tie
 
 returns : tie.Need-returns
-unfolding foundBy openedBy lrm among occurs spanBy
+unfolding openedBy lrm
 returns c =
-    let s = c .before .before .before .before .before .before .before .before .before .before .before .args .s .now in
-    let p0 = c .before .before .before .before .before .before .before .before .before .referring .ensures in
-    let p1 = c .before .before .before .before .before .before .before .byte .ensures ∙ (λ i. scan (byte 45) s (p0 i .end)) in
-    let p2 = c .before .before .before .before .before .lit .ensures ∙ (λ i. scan (lit (82 ∷ 77 ∷ 75 ∷ 47 ∷ [])) s (p1 i)) in
-    let p3 = c .before .before .before .before .digits .ensures ∙ (λ i. scan (run Digit 2 2) s (p2 i)) in
-    let p4 = c .before .before .before .byte2 .ensures ∙ (λ i. scan (byte 41) s (p3 i)) in
-    stops it s _ p4 (c .before .if1 .taken) (c .stopped .ensures)
+    stops it (c .before .before .before .before .before .before .before .before .before .before .before .args .s .now) _ (rw (c .before .before .before .byte2 .ensures, c .before .before .before .before .digits .ensures, c .before .before .before .before .before .lit .ensures, c .before .before .before .before .before .before .before .byte .ensures, c .before .before .before .before .before .before .before .before .before .referring .ensures)) (c .before .if1 .taken) (c .stopped .ensures)
 
 returns-2 : tie.Need-returns-2
 unfolding foundBy openedBy lrm among occurs spanBy
