@@ -9,10 +9,11 @@ use lib.ListN.{length, getD}
 use lib.Dec.{leb, eqb}
 use borrow.Author.Tests.{leb-true, eqb-true, ne-eqb}
 use Rattle.scan.specs.Grammar.{placeOf, sizeOf, Span}
-use Rattle.scan.specs.Bools.{known, and-l, and-r}
+use Rattle.scan.specs.Bools.{known, and-l, and-r, both}
+use Rattle.changes.specs.declared.Plan.{Plan}
 use Rattle.types.specs.declared.Parts.{Parts}
 use Rattle.types.specs.Picking.{lettersOf}
-use Rattle.message.specs.Record.{figure, figureAt, figureIn, levelIn, formIn, figuresOf, kindOf}
+use Rattle.message.specs.Record.{figure, figureAt, figureIn, levelIn, formIn, planFiguresOf, figuresOf, kindOf}
 use Rattle.message.specs.declared.Kind.the-variants.{None}
 use Rattle.message.specs.declared.LevelKind.the-variants.{Absent}
 use Rattle.message.specs.declared.PointForm.the-variants.{NoPoint}
@@ -65,6 +66,10 @@ module _ (s : List ℕ) (p : Span) (h : eqb (sizeOf p) 0 ≡ true) where
   unfolding formIn
   absent-form = rw h
 
+-- absent count and level
+pub no-plan-figures : (s : List ℕ) (p : Plan) (a b : Bool) → a ≡ eqb (sizeOf (p .count)) 0 → b ≡ eqb (sizeOf (p .level)) 0 → a && b ≡ true → record { count = 0; level = record { kind = Absent; figure = 0 } } ≡ planFiguresOf s p
+no-plan-figures s p a b a′ b′ e = λ i. record { count = absent-figure s (p .count) (sym a′ ∙ and-l a b e) i; level = absent-level s (p .level) (sym b′ ∙ and-r a b e) i }
+
 pub plain-figures : (s : List ℕ) (p : Parts) (a b c d e f g : Bool) → a ≡ eqb (sizeOf (p .own .count)) 0 → b ≡ eqb (sizeOf (p .own .level)) 0 → c ≡ eqb (sizeOf (p .changes .count)) 0 → d ≡ eqb (sizeOf (p .changes .level)) 0 → e ≡ eqb (sizeOf (p .estimate .point)) 0 → f ≡ eqb (sizeOf (p .estimate .crossing)) 0 → g ≡ eqb (sizeOf (p .estimate .second)) 0 → (a && b && c && d) && (e && f && g) ≡ true → (x y z : ℕ) → x ≡ figureIn s (p .number .digits) → y ≡ figureIn s (p .reference .digits) → z ≡ figureIn s (p .reason) → record { number = x; reference = y; own = record { count = 0; level = record { kind = Absent; figure = 0 } }; form = NoPoint; crossing = record { kind = Absent; figure = 0 }; second = record { kind = Absent; figure = 0 }; changes = record { count = 0; level = record { kind = Absent; figure = 0 } }; reason = z } ≡ figuresOf s p
 plain-figures s p a b c d e f g a′ b′ c′ d′ e′ f′ g′ h x y z x′ y′ z′ =
     let l = and-l (a && b && c && d) (e && f && g) h in
@@ -75,11 +80,11 @@ plain-figures s p a b c d e f g a′ b′ c′ d′ e′ f′ g′ h x y z x′ 
     λ i. record {
       number = x′ i;
       reference = y′ i;
-      own = record { count = absent-figure s (p .own .count) (sym a′ ∙ and-l a b j) i; level = absent-level s (p .own .level) (sym b′ ∙ and-r a b j) i };
+      own = no-plan-figures s (p .own) a b a′ b′ j i;
       form = absent-form s (p .estimate .point) (sym e′ ∙ and-l e f n) i;
       crossing = absent-level s (p .estimate .crossing) (sym f′ ∙ and-r e f n) i;
       second = absent-level s (p .estimate .second) (sym g′ ∙ and-r (e && f) g m) i;
-      changes = record { count = absent-figure s (p .changes .count) (sym c′ ∙ and-r (a && b) c k) i; level = absent-level s (p .changes .level) (sym d′ ∙ and-r (a && b && c) d l) i };
+      changes = no-plan-figures s (p .changes) c d c′ d′ (both c d (and-r (a && b) c k) (and-r (a && b && c) d l)) i;
       reason = z′ i;
     }
 

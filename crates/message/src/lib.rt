@@ -261,6 +261,22 @@ fn absent(p: Span) -> bool
     p % 65536 == 0
 }
 
+// A type has figures of its own fields or of those within field 22, so of one of the two it is told at once that they are absent.
+fn some_figures(s: &[u8], p: Plan) -> PlanFigures
+    ensures { λ r. ⌜ r ≡ planFiguresOf (now (s .entry)) p ⌝ }
+{
+    if absent(p.count) & absent(p.level) {
+        return PlanFigures {
+            count: 0,
+            level: Level {
+                kind: LevelKind::Absent,
+                figure: 0,
+            },
+        };
+    }
+    plan_figures(s, p)
+}
+
 // Most types have neither levels nor a point nor a count, and one test of all says so.
 pub fn decoded(s: &[u8], p: Parts) -> Figures
     ensures { λ r. ⌜ r ≡ figuresOf (now (s .entry)) p ⌝ }
@@ -292,11 +308,11 @@ pub fn decoded(s: &[u8], p: Parts) -> Figures
             reason,
         };
     }
-    let own = plan_figures(s, o);
+    let own = some_figures(s, o);
     let form = form_in(s, e.point);
     let crossing = level_in(s, e.crossing);
     let second = level_in(s, e.second);
-    let changes = plan_figures(s, c);
+    let changes = some_figures(s, c);
     Figures {
         number,
         reference,

@@ -25,10 +25,10 @@ decoded-spec =
     (λ c. λ i. record {
       number = c .before .before .before .before .before .before .before .before .before .before .before .before .before .before .before .number-figure .ensures i;
       reference = c .before .before .before .before .before .before .before .before .before .before .before .before .before .before .number-figure2 .ensures i;
-      own = c .before .before .before .before .plan-figures .ensures i;
+      own = c .before .before .before .before .some-figures .ensures i;
       form = c .before .before .before .form-in .ensures i;
       crossing = c .before .before .level-in .ensures i;
       second = c .before .level-in2 .ensures i;
-      changes = c .plan-figures2 .ensures i;
+      changes = c .some-figures2 .ensures i;
       reason = c .before .before .before .before .before .before .before .before .before .before .before .before .before .seldom-figure .ensures i;
     }))
