@@ -12,7 +12,7 @@ use Rattle.types.proofs.lam.Tie as tie
 returns : tie.Need-returns
 unfolding openedBy lam
 returns c =
-    stops it (c .before .before .before .before .before .before .before .args .s .now) _ (rw (c .before .before .before .byte .ensures, c .before .before .before .before .before .referring .ensures)) (c .before .if1 .taken) (c .stopped .ensures)
+    stops it (c .before .before .before .before .before .before .before .args .s .now) (c .before .before .before .byte .result) (rw (c .before .before .before .byte .ensures, c .before .before .before .before .before .referring .ensures)) (c .before .if1 .taken) (c .stopped .ensures)
 
 returns-2 : tie.Need-returns-2
 unfolding foundBy openedBy lam among occurs spanBy

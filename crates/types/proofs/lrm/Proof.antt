@@ -15,7 +15,7 @@ use Rattle.types.proofs.lrm.Tie as tie
 returns : tie.Need-returns
 unfolding openedBy lrm
 returns c =
-    stops it (c .before .before .before .before .before .before .before .before .before .before .before .args .s .now) _ (rw (c .before .before .before .byte2 .ensures, c .before .before .before .before .digits .ensures, c .before .before .before .before .before .lit .ensures, c .before .before .before .before .before .before .before .byte .ensures, c .before .before .before .before .before .before .before .before .before .referring .ensures)) (c .before .if1 .taken) (c .stopped .ensures)
+    stops it (c .before .before .before .before .before .before .before .before .before .before .before .args .s .now) (c .before .before .before .byte2 .result) (rw (c .before .before .before .byte2 .ensures, c .before .before .before .before .digits .ensures, c .before .before .before .before .before .lit .ensures, c .before .before .before .before .before .before .before .byte .ensures, c .before .before .before .before .before .before .before .before .before .referring .ensures)) (c .before .if1 .taken) (c .stopped .ensures)
 
 returns-2 : tie.Need-returns-2
 unfolding foundBy openedBy lrm among occurs spanBy

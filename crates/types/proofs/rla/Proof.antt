@@ -13,7 +13,7 @@ use Rattle.types.proofs.rla.Tie as tie
 returns : tie.Need-returns
 unfolding openedBy rla
 returns c =
-    stops it (c .before .before .before .before .before .before .before .before .before .args .s .now) _ (rw (c .before .before .before .byte2 .ensures, c .before .before .before .before .words .ensures, c .before .before .before .before .before .byte .ensures, c .before .before .before .before .before .before .before .referring .ensures)) (c .before .if1 .taken) (c .stopped .ensures)
+    stops it (c .before .before .before .before .before .before .before .before .before .args .s .now) (c .before .before .before .byte2 .result) (rw (c .before .before .before .byte2 .ensures, c .before .before .before .before .words .ensures, c .before .before .before .before .before .byte .ensures, c .before .before .before .before .before .before .before .referring .ensures)) (c .before .if1 .taken) (c .stopped .ensures)
 
 returns-2 : tie.Need-returns-2
 unfolding foundBy openedBy rla among occurs spanBy
