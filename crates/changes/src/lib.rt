@@ -9,7 +9,7 @@ ghost use Rattle.changes.specs.Found.{no_plan, found22, nothing22, Past, found_t
 use scan::{Scan, Span};
 
 // Where the parts of fields 07 to 18 stand.
-#[derive(Drop)]
+#[derive(Clone, Copy)]
 pub struct Plan {
     pub aircraft: Span,
     pub code: Span,
@@ -34,14 +34,14 @@ pub struct Plan {
 }
 
 // Fields 22: where they end, and their parts.
-#[derive(Drop)]
+#[derive(Clone, Copy)]
 pub struct Found22 {
     pub end: Scan,
     pub plan: Plan,
 }
 
 // The same, with the parts of the message's own field 18.
-#[derive(Drop)]
+#[derive(Clone, Copy)]
 pub struct FoundTail {
     pub end: Scan,
     pub indicator: Span,

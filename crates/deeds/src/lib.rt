@@ -19,7 +19,7 @@ use scan::Span;
 
 // What a message does: FPL files, CPL enters, CHG amends, EST estimates, CNL cancels, RTI offers, an RTA retracts or accepts.
 // An answer does nothing, nor does an RTA that refers to neither end.
-#[derive(Drop)]
+#[derive(Clone, Copy)]
 pub enum Deed {
     Files,
     Enters,
@@ -33,7 +33,7 @@ pub enum Deed {
 }
 
 // Whether it can be done: the condition fails, or no place is free, or it is done at a place.
-#[derive(Drop)]
+#[derive(Clone, Copy)]
 pub enum Decision {
     Fails,
     Full,

@@ -1,9 +1,8 @@
 -- A message number that is whole: its twelve bytes are looked at together.
-use Rattle.std.specs.Prelude.{◌≡◌, refl, Bool, true, ◌&&◌, List, ◌∷◌, ℕ, zero, suc, ◌+◌, ◌-◌, ◌≤◌, ◌<◌, length, get_or, take, drop, leb}
-use Rattle.std.proofs.Common.{sym, ◌∙◌, arith, add-one, drop-cons, leb-true}
+use Rattle.std.specs.Prelude.{◌≡◌, refl, Bool, true, ◌&&◌, List, ℕ, ◌+◌, ◌-◌, ◌≤◌, length, get_or, take, drop}
+use Rattle.std.proofs.Common.{sym, ◌∙◌, arith}
 use Rattle.std.proofs.Math.Path.{ap}
 use Rattle.scan.specs.declared.Scan.{Scan}
-use Rattle.scan.specs.declared.Class.{Class}
 use Rattle.scan.specs.declared.Class.TheVariants.{Letter, Digit, Byte, Two}
 use Rattle.scan.specs.Grammar.{Span, is_in, all, run}
 use Rattle.scan.specs.Texts.{byte}
@@ -21,27 +20,6 @@ pub record Numbered (s : List ℕ) (at : ℕ) : Type 0 where
   pub slash : scan_at (byte 47) s (at + 4) ≡ from (at + 5)
   pub receiver : scan_at (run Letter 4 4) s (at + 5) ≡ from (at + 9)
   pub digits : scan_at (run Digit 3 3) s (at + 9) ≡ from (at + 12)
-  pub figures : (i : ℕ) → i < 3 → 48 ≤ get_or s (at + 9 + i) 0
-
--- each byte of a block
-all_each : (c : Class) (m : ℕ) (s : List ℕ) (at : ℕ) → at + m ≤ length s → all c (take m (drop at s)) ≡ true → (i : ℕ) → i < m → is_in c (get_or s (at + i) 0) ≡ true
-unfolding all
-all_each c zero s at h e i l = absurd (omega arith)
-all_each c (suc m) s at h e i l =
-    let d : drop at s ≡ get_or s at 0 ∷ drop (at + 1) s = rw (add-one at) (drop-cons s at 0 (omega arith)) in
-    let p : is_in c (get_or s at 0) && all c (take m (drop (at + 1) s)) ≡ true = rw d at e in
-    here i l (and_l (is_in c (get_or s at 0)) (all c (take m (drop (at + 1) s))) p) (all_each c m s (at + 1) (omega arith) (and_r (is_in c (get_or s at 0)) (all c (take m (drop (at + 1) s))) p))
-  where
-    here : (i : ℕ) → i < suc m → is_in c (get_or s at 0) ≡ true → ((j : ℕ) → j < m → is_in c (get_or s (at + 1 + j) 0) ≡ true) → is_in c (get_or s (at + i) 0) ≡ true
-    here zero l x r = let z : at + 0 ≡ at = omega arith in rw z x
-    here (suc j) l x r = let z : at + suc j ≡ at + 1 + j = omega arith in rw z (r j (omega arith))
-
--- no digit is below 48
-low : (s : List ℕ) (a e : ℕ) → a + 3 ≡ e → e ≤ length s → all (Two 48 57 48 57) (take (e - a) (drop a s)) ≡ true → (i : ℕ) → i < 3 → 48 ≤ get_or s (a + i) 0
-low s a e m l f i h =
-    let n : e - a ≡ 3 = omega arith in
-    let x = sym (twice 48 57 (get_or s (a + i) 0)) ∙ all_each (Two 48 57 48 57) 3 s a (omega arith) (rw n at f) i h in
-    leb-true 48 (get_or s (a + i) 0) (and_l (leb 48 (get_or s (a + i) 0)) (leb (get_or s (a + i) 0) 57) x)
 
 letters : (s : List ℕ) (a e : ℕ) → a + 4 ≡ e → e ≤ length s → all (Two 65 90 65 90) (take (e - a) (drop a s)) ≡ true → scan_at (run Letter 4 4) s a ≡ from e
 letters s a e m l f = sym (scan_alike (Two 65 90 65 90) Letter (twice 65 90) 4 4 s (from a)) ∙ run_spanned (Two 65 90 65 90) 4 s a e m l f
@@ -62,7 +40,6 @@ numbered_is s at h a b c d p q r t e =
       slash = slash s (at + 4) (at + 5) (omega arith) (omega arith) (sym q ∙ and_r a b y);
       receiver = letters s (at + 5) (at + 9) (omega arith) (omega arith) (sym r ∙ and_r (a && b) c x);
       digits = digits s (at + 9) (at + 12) (omega arith) (omega arith) (sym t ∙ and_r (a && b && c) d e);
-      figures = low s (at + 9) (at + 12) (omega arith) (omega arith) (sym t ∙ and_r (a && b && c) d e);
     }
 
 -- what the pieces of a whole number give

@@ -7,7 +7,7 @@ ghost use Rattle.fields.specs.Found.{found18};
 use scan::{Scan, Span};
 
 // The parts of each field, and where it ends.
-#[derive(Drop)]
+#[derive(Clone, Copy)]
 pub struct FoundNumber {
     pub end: Scan,
     pub sender: Span,
@@ -15,21 +15,21 @@ pub struct FoundNumber {
     pub digits: Span,
 }
 
-#[derive(Drop)]
+#[derive(Clone, Copy)]
 pub struct Found07 {
     pub end: Scan,
     pub aircraft: Span,
     pub code: Span,
 }
 
-#[derive(Drop)]
+#[derive(Clone, Copy)]
 pub struct Found08 {
     pub end: Scan,
     pub rules: Span,
     pub flight: Span,
 }
 
-#[derive(Drop)]
+#[derive(Clone, Copy)]
 pub struct Found09 {
     pub end: Scan,
     pub count: Span,
@@ -37,21 +37,21 @@ pub struct Found09 {
     pub wake: Span,
 }
 
-#[derive(Drop)]
+#[derive(Clone, Copy)]
 pub struct Found10 {
     pub end: Scan,
     pub equipment: Span,
     pub surveillance: Span,
 }
 
-#[derive(Drop)]
+#[derive(Clone, Copy)]
 pub struct Found13 {
     pub end: Scan,
     pub departure: Span,
     pub time: Span,
 }
 
-#[derive(Drop)]
+#[derive(Clone, Copy)]
 pub struct Found14 {
     pub end: Scan,
     pub point: Span,
@@ -61,7 +61,7 @@ pub struct Found14 {
     pub sense: Span,
 }
 
-#[derive(Drop)]
+#[derive(Clone, Copy)]
 pub struct Found15 {
     pub end: Scan,
     pub speed: Span,
@@ -69,7 +69,7 @@ pub struct Found15 {
     pub route: Span,
 }
 
-#[derive(Drop)]
+#[derive(Clone, Copy)]
 pub struct Found16 {
     pub end: Scan,
     pub destination: Span,
@@ -78,7 +78,7 @@ pub struct Found16 {
     pub alternate2: Span,
 }
 
-#[derive(Drop)]
+#[derive(Clone, Copy)]
 pub struct Found18 {
     pub end: Scan,
     pub indicator: Span,

@@ -5,7 +5,7 @@ ghost use Rattle.scan.specs.Bools.{Decides};
 ghost use Rattle.head.specs.Head.{after, standing, received, given};
 ghost use Rattle.head.specs.Sound.{HeadFormed};
 
-#[derive(Drop)]
+#[derive(Clone, Copy)]
 pub struct Head {
     pub ours: [u8; 4],
     pub partners: [u8; 4],
@@ -14,7 +14,7 @@ pub struct Head {
 }
 
 // What a received number is.
-#[derive(Drop)]
+#[derive(Clone, Copy)]
 pub enum Standing {
     New,
     Old,
@@ -22,7 +22,7 @@ pub enum Standing {
 }
 
 // A number, and the head that follows once it is given.
-#[derive(Drop)]
+#[derive(Clone, Copy)]
 pub struct Given {
     pub number: usize,
     pub head: Head,

@@ -7,7 +7,7 @@ use rules::Answer;
 use writer::Writing;
 
 // What document 01 has an answer tell: its number, the length that it gives, the place and the hyphens before it.
-#[derive(Drop)]
+#[derive(Clone, Copy)]
 pub(crate) struct Told {
     pub number: usize,
     pub size: usize,

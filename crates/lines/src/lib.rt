@@ -77,7 +77,7 @@ fn put_refusal(d: &mut [u8], at: usize, place: u64, hyphens: u64) -> usize
 }
 
 // A line of the report: the index behind it, and 1 where its text is read, else 0.
-#[derive(Drop)]
+#[derive(Clone, Copy)]
 pub struct Told {
     pub next: usize,
     pub read: u64,

@@ -46,7 +46,7 @@ pub const MOST_LINES: u64 = 9223372036854775808;
 
 // What is known between two pieces: how many lines were ended, how many of them are read, and how many bytes of the
 // unfinished line are kept.
-#[derive(Drop)]
+#[derive(Clone, Copy)]
 pub struct Tally {
     lines: u64,
     read: u64,
@@ -54,7 +54,7 @@ pub struct Tally {
 }
 
 // What a piece gave: the tally behind it, how many bytes of the piece were taken, and how many of out were written.
-#[derive(Drop)]
+#[derive(Clone, Copy)]
 pub struct Step {
     pub tally: Tally,
     pub taken: usize,

@@ -1,11 +1,16 @@
 -- Laws of the numbers that parts stand for.
 use Rattle.std.specs.Prelude.{◌≡◌, refl, ◌⊎◌, Bool, true, false, ◌&&◌, List, [], ◌∷◌, ℕ, zero, suc, ◌+◌, ◌-◌, ◌*◌, ◌≤◌, ◌<◌, length, get_or, leb, eqb}
 use Rattle.std.proofs.Common.{sym, ◌∙◌, inl, inr, arith}
-use borrow.Author.Tests.{leb-true, eqb-true}
+use borrow.Author.Tests.{leb-true, eqb-true, ne_eqb}
 use Rattle.scan.specs.Grammar.{place_of, size_of, Span}
-use Rattle.scan.specs.Bools.{known, and_l, and_r}
-use Rattle.message.specs.Record.{figure, figure_at, figure_in, level_in, plan_figured}
+use Rattle.scan.specs.Bools.{known, and_l, and_r, both}
+use Rattle.changes.specs.declared.Plan.{Plan}
+use Rattle.types.specs.declared.Parts.{Parts}
+use Rattle.types.specs.Picking.{letters_of}
+use Rattle.message.specs.Record.{figure, figure_at, figure_in, level_in, form_in, plan_figures_of, figures_of, kind_of}
+use Rattle.message.specs.declared.Kind.TheVariants.{None}
 use Rattle.message.specs.declared.LevelKind.TheVariants.{Absent}
+use Rattle.message.specs.declared.PointForm.TheVariants.{NoPoint}
 
 pub get_d_past : (s : List ℕ) (i : ℕ) → length s ≤ i → get_or s i 0 ≡ 0
 get_d_past [] i h = refl
@@ -27,18 +32,6 @@ module _ (s : List ℕ) (at : ℕ) where
   pub figure_3 : (a b c : ℕ) → a ≡ get_or s at 0 - 48 → b ≡ get_or s (at + 1) 0 - 48 → c ≡ get_or s (at + 2) 0 - 48 → (a * 10 + b) * 10 + c ≡ figure_at 3 s at
   unfolding figure
   figure_3 a b c e f g = rw at_itself (omega arith)
-
-  -- of three digits that are known to be there the 48s are taken off at once
-  module _ (d : (i : ℕ) → i < 3 → 48 ≤ get_or s (at + i) 0) (a b c : ℕ) (e : a ≡ get_or s at 0) (f : b ≡ get_or s (at + 1) 0) (g : c ≡ get_or s (at + 2) 0) where
-    first : 48 ≤ get_or s at 0
-    first = rw at_itself at (d 0 (omega arith))
-
-    pub whole_enough : 5328 ≤ a * 100 + b * 10 + c
-    whole_enough = omega (arith, first, d 1 (omega arith), d 2 (omega arith))
-
-    pub figure_whole : a * 100 + b * 10 + c - 5328 ≡ figure_at 3 s at
-    unfolding figure
-    figure_whole = rw at_itself (omega (arith, first, d 1 (omega arith), d 2 (omega arith)))
 
   pub figure_4 : (a b c d : ℕ) → a ≡ get_or s at 0 - 48 → b ≡ get_or s (at + 1) 0 - 48 → c ≡ get_or s (at + 2) 0 - 48 → d ≡ get_or s (at + 3) 0 - 48 → ((a * 10 + b) * 10 + c) * 10 + d ≡ figure_at 4 s at
   unfolding figure
@@ -63,6 +56,36 @@ module _ (s : List ℕ) (p : Span) (h : eqb (size_of p) 0 ≡ true) where
   unfolding level_in
   absent_level = rw h
 
+  absent_form : NoPoint ≡ form_in s p
+  unfolding form_in
+  absent_form = rw h
+
 -- absent count and level
-pub no_plan_figures : (s : List ℕ) (count level : Span) (a b : Bool) → a ≡ eqb (size_of count) 0 → b ≡ eqb (size_of level) 0 → a && b ≡ true → record { count = 0; level = record { kind = Absent; figure = 0 } } ≡ plan_figured s count level
-no_plan_figures s count level a b a' b' e = λ i. record { count = absent_figure s count (sym a' ∙ and_l a b e) i; level = absent_level s level (sym b' ∙ and_r a b e) i }
+pub no_plan_figures : (s : List ℕ) (p : Plan) (a b : Bool) → a ≡ eqb (size_of p.count) 0 → b ≡ eqb (size_of p.level) 0 → a && b ≡ true → record { count = 0; level = record { kind = Absent; figure = 0 } } ≡ plan_figures_of s p
+no_plan_figures s p a b a' b' e = λ i. record { count = absent_figure s p.count (sym a' ∙ and_l a b e) i; level = absent_level s p.level (sym b' ∙ and_r a b e) i }
+
+pub plain_figures : (s : List ℕ) (p : Parts) (a b c d e f g : Bool) → a ≡ eqb (size_of p.own.count) 0 → b ≡ eqb (size_of p.own.level) 0 → c ≡ eqb (size_of p.changes.count) 0 → d ≡ eqb (size_of p.changes.level) 0 → e ≡ eqb (size_of p.estimate.point) 0 → f ≡ eqb (size_of p.estimate.crossing) 0 → g ≡ eqb (size_of p.estimate.second) 0 → (a && b && c && d) && (e && f && g) ≡ true → (x y z : ℕ) → x ≡ figure_in s p.number.digits → y ≡ figure_in s p.reference.digits → z ≡ figure_in s p.reason → record { number = x; reference = y; own = record { count = 0; level = record { kind = Absent; figure = 0 } }; form = NoPoint; crossing = record { kind = Absent; figure = 0 }; second = record { kind = Absent; figure = 0 }; changes = record { count = 0; level = record { kind = Absent; figure = 0 } }; reason = z } ≡ figures_of s p
+plain_figures s p a b c d e f g a' b' c' d' e' f' g' h x y z x' y' z' =
+    let l = and_l (a && b && c && d) (e && f && g) h in
+    let m = and_r (a && b && c && d) (e && f && g) h in
+    let k = and_l (a && b && c) d l in
+    let j = and_l (a && b) c k in
+    let n = and_l (e && f) g m in
+    λ i. record {
+      number = x' i;
+      reference = y' i;
+      own = no_plan_figures s p.own a b a' b' j i;
+      form = absent_form s p.estimate.point (sym e' ∙ and_l e f n) i;
+      crossing = absent_level s p.estimate.crossing (sym f' ∙ and_r e f n) i;
+      second = absent_level s p.estimate.second (sym g' ∙ and_r (e && f) g m) i;
+      changes = no_plan_figures s p.changes c d c' d' (both c d (and_r (a && b) c k) (and_r (a && b && c) d l)) i;
+      reason = z' i;
+    }
+
+-- a text of fewer than four bytes names no type
+pub short_kind : (s : List ℕ) → length s < 4 → None ≡ kind_of (letters_of s)
+unfolding kind_of
+short_kind s h =
+    let z : get_or s 3 0 ≡ 0 = get_d_past s 3 (omega arith) in
+    let n : (w : ℕ) → (letters_of s ≡ w → ⊥) → eqb (letters_of s) w ≡ false = λ w m. ne_eqb (letters_of s) w m in
+    rw (n 4608076 (λ e. omega arith), n 4411468 (λ e. omega arith), n 4543316 (λ e. omega arith), n 4409415 (λ e. omega arith), n 4410956 (λ e. omega arith), n 5395529 (λ e. omega arith), n 5395521 (λ e. omega arith), n 5393473 (λ e. omega arith), n 4997453 (λ e. omega arith), n 5001805 (λ e. omega arith))

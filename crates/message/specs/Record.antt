@@ -78,12 +78,8 @@ form_in s p =
     (cond (eqb (size_of p) 7) Degrees
     (cond (leb 65 (get_or s (place_of p + size_of p - 1) 0)) Minutes Bearing)))
 
--- what a count and a level say
-abbrev pub plan_figured : List ℕ → Span → Span → PlanFigures
-plan_figured s count level = record { count = figure_in s count; level = level_in s level }
-
 abbrev pub plan_figures_of : List ℕ → Plan → PlanFigures
-plan_figures_of s p = plan_figured s p.count p.level
+plan_figures_of s p = record { count = figure_in s p.count; level = level_in s p.level }
 
 abbrev pub figures_of : List ℕ → Parts → Figures
 figures_of s p = record {

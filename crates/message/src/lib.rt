@@ -1,15 +1,17 @@
-// What is said of a text, its record, and the numbers that the parts of a text stand for.
-ghost use Rattle.std.specs.Prelude.{◌≡◌, ℕ, ◌+◌, ◌-◌, ◌≤◌, ◌<◌, length, get_or, eqb};
+// A text is read, with its record, or refused with its place.
+ghost use Rattle.std.specs.Prelude.{◌≡◌, ◌+◌, ◌-◌, ◌≤◌, ◌<◌, get_or, eqb};
 ghost use Rattle.scan.specs.Grammar.{place_of, size_of};
-ghost use Rattle.message.specs.Record.{level_kind_of, figure_at, level_in, form_in, plan_figured};
+ghost use Rattle.types.specs.Picking.{letters_of};
+ghost use Rattle.message.specs.Record.{kind_of, level_kind_of, figure_at, level_in, form_in, figures_of, plan_figures_of};
 
+use changes::Plan;
 use scan::Span;
 use types::Parts;
 
 pub mod numbered;
 
 // The types; None is that of no message.
-#[derive(Drop)]
+#[derive(Clone, Copy)]
 pub enum Kind {
     None,
     Fpl,
@@ -24,7 +26,7 @@ pub enum Kind {
     Lrm,
 }
 
-#[derive(Drop)]
+#[derive(Clone, Copy)]
 pub enum LevelKind {
     Absent,
     FlightLevel,
@@ -34,7 +36,7 @@ pub enum LevelKind {
     Vfr,
 }
 
-#[derive(Drop)]
+#[derive(Clone, Copy)]
 pub enum PointForm {
     NoPoint,
     Name,
@@ -43,21 +45,21 @@ pub enum PointForm {
     Minutes,
 }
 
-#[derive(Drop)]
+#[derive(Clone, Copy)]
 pub struct Level {
     pub kind: LevelKind,
     pub figure: usize,
 }
 
 // What those parts of fields 07 to 18 say that are numbers.
-#[derive(Drop)]
+#[derive(Clone, Copy)]
 pub struct PlanFigures {
     pub count: usize,
     pub level: Level,
 }
 
 // What the parts say that are numbers.
-#[derive(Drop)]
+#[derive(Clone, Copy)]
 pub struct Figures {
     pub number: usize,
     pub reference: usize,
@@ -69,7 +71,7 @@ pub struct Figures {
     pub reason: usize,
 }
 
-#[derive(Drop)]
+#[derive(Clone, Copy)]
 pub struct Record {
     pub kind: Kind,
     pub parts: Parts,
@@ -77,7 +79,7 @@ pub struct Record {
 }
 
 // What is said of a text.
-#[derive(Drop)]
+#[derive(Clone, Copy)]
 pub enum Verdict {
     Read,
     // The place, and the hyphens before it.
@@ -85,7 +87,7 @@ pub enum Verdict {
 }
 
 // What is said of a text, and its record, which is blank where it is refused.
-#[derive(Drop)]
+#[derive(Clone, Copy)]
 pub struct Outcome {
     pub verdict: Verdict,
     pub record: Record,
@@ -158,31 +160,6 @@ fn three(s: &[u8], at: usize) -> usize
     figure(s, at, 3)
 }
 
-// Four digits, as levels in metres have.
-fn four(s: &[u8], at: usize) -> usize
-    requires { at ≤ 65536 }
-    ensures { result ≡ figure_at 4 s.now at }
-{
-    if at + 4 <= s.len() {
-        let a = value(s[at]);
-        let b = a * 10 + value(s[at + 1]);
-        let c = b * 10 + value(s[at + 2]);
-        return c * 10 + value(s[at + 3]);
-    }
-    figure(s, at, 4)
-}
-
-// Three digits that are known to be there: no byte is held against anything.
-pub fn whole_three(s: &[u8], at: usize) -> usize
-    requires { (at + 3 ≤ length s.now) × ((i : ℕ) → i < 3 → 48 ≤ get_or s.now (at + i) 0) }
-    ensures { result ≡ figure_at 3 s.now at }
-{
-    let a = scan::wide(s[at]);
-    let b = scan::wide(s[at + 1]);
-    let c = scan::wide(s[at + 2]);
-    a * 100 + b * 10 + c - 5328
-}
-
 fn level_kind(b: u8) -> LevelKind
     ensures { result ≡ level_kind_of b }
 {
@@ -201,7 +178,7 @@ fn level_kind(b: u8) -> LevelKind
     LevelKind::Absent
 }
 
-pub fn level_in(s: &[u8], p: Span) -> Level
+fn level_in(s: &[u8], p: Span) -> Level
     ensures { result ≡ level_in s.now p }
 {
     let len = (p % 65536) as usize;
@@ -225,19 +202,13 @@ pub fn level_in(s: &[u8], p: Span) -> Level
             figure: three(s, at + 1),
         };
     }
-    if len == 5 {
-        return Level {
-            kind,
-            figure: four(s, at + 1),
-        };
-    }
     Level {
         kind,
         figure: figure(s, at + 1, len - 1),
     }
 }
 
-pub fn form_in(s: &[u8], p: Span) -> PointForm
+fn form_in(s: &[u8], p: Span) -> PointForm
     ensures { result ≡ form_in s.now p }
 {
     let len = (p % 65536) as usize;
@@ -257,19 +228,20 @@ pub fn form_in(s: &[u8], p: Span) -> PointForm
     PointForm::Bearing
 }
 
-// What a count and a level say.
-fn both_figures(s: &[u8], count: Span, level: Span) -> PlanFigures
-    ensures { result ≡ plan_figured s.now count level }
+fn plan_figures(s: &[u8], p: Plan) -> PlanFigures
+    ensures { result ≡ plan_figures_of s.now p }
 {
-    let at = (count / 65536) as usize;
-    let len = (count % 65536) as usize;
+    let n = p.count;
+    let l = p.level;
+    let at = (n / 65536) as usize;
+    let len = (n % 65536) as usize;
     PlanFigures {
         count: figure(s, at, len),
-        level: level_in(s, level),
+        level: level_in(s, l),
     }
 }
 
-pub fn number_figure(s: &[u8], p: Span) -> usize
+fn number_figure(s: &[u8], p: Span) -> usize
     ensures { result ≡ figure_at (size_of p) s.now (place_of p) }
 {
     let at = (p / 65536) as usize;
@@ -280,17 +252,27 @@ pub fn number_figure(s: &[u8], p: Span) -> usize
     figure(s, at, len)
 }
 
+// Only an LRM has the part p, so it is mostly told at once that it is absent.
+fn seldom_figure(s: &[u8], p: Span) -> usize
+    ensures { result ≡ figure_at (size_of p) s.now (place_of p) }
+{
+    if p % 65536 == 0 {
+        return 0;
+    }
+    number_figure(s, p)
+}
+
 fn absent(p: Span) -> bool
     ensures { result ≡ eqb (size_of p) 0 }
 {
     p % 65536 == 0
 }
 
-// The same. Most flights are of one aircraft, and few changes are of the count or the level, so that is told first.
-pub fn plan_figures(s: &[u8], count: Span, level: Span) -> PlanFigures
-    ensures { result ≡ plan_figured s.now count level }
+// A type has figures of its own fields or of those within field 22, so of one of the two it is told at once that they are absent.
+fn some_figures(s: &[u8], p: Plan) -> PlanFigures
+    ensures { result ≡ plan_figures_of s.now p }
 {
-    if absent(count) & absent(level) {
+    if absent(p.count) & absent(p.level) {
         return PlanFigures {
             count: 0,
             level: Level {
@@ -299,5 +281,99 @@ pub fn plan_figures(s: &[u8], count: Span, level: Span) -> PlanFigures
             },
         };
     }
-    both_figures(s, count, level)
+    plan_figures(s, p)
+}
+
+// Most types have neither levels nor a point nor a count, and one test of all says so.
+pub fn decoded(s: &[u8], p: Parts) -> Figures
+    ensures { result ≡ figures_of s.now p }
+{
+    let n = p.number;
+    let r = p.reference;
+    let e = p.estimate;
+    let o = p.own;
+    let c = p.changes;
+    let number = number_figure(s, n.digits);
+    let reference = number_figure(s, r.digits);
+    let reason = seldom_figure(s, p.reason);
+    let plans = absent(o.count) & absent(o.level) & absent(c.count) & absent(c.level);
+    let point = absent(e.point) & absent(e.crossing) & absent(e.second);
+    if plans & point {
+        let level = Level {
+            kind: LevelKind::Absent,
+            figure: 0,
+        };
+        let plan = PlanFigures { count: 0, level };
+        return Figures {
+            number,
+            reference,
+            own: plan,
+            form: PointForm::NoPoint,
+            crossing: level,
+            second: level,
+            changes: plan,
+            reason,
+        };
+    }
+    let own = some_figures(s, o);
+    let form = form_in(s, e.point);
+    let crossing = level_in(s, e.crossing);
+    let second = level_in(s, e.second);
+    let changes = some_figures(s, c);
+    Figures {
+        number,
+        reference,
+        own,
+        form,
+        crossing,
+        second,
+        changes,
+        reason,
+    }
+}
+
+// The type that the letters name.
+fn kind_by(w: usize) -> Kind
+    ensures { result ≡ kind_of w }
+{
+    if w == 4608076 {
+        return Kind::Fpl;
+    }
+    if w == 4411468 {
+        return Kind::Cpl;
+    }
+    if w == 4543316 {
+        return Kind::Est;
+    }
+    if w == 4409415 {
+        return Kind::Chg;
+    }
+    if w == 4410956 {
+        return Kind::Cnl;
+    }
+    if w == 5395529 {
+        return Kind::Rti;
+    }
+    if w == 5395521 {
+        return Kind::Rta;
+    }
+    if w == 5393473 {
+        return Kind::Rla;
+    }
+    if w == 4997453 {
+        return Kind::Lam;
+    }
+    if w == 5001805 {
+        return Kind::Lrm;
+    }
+    Kind::None
+}
+
+pub fn kind_in(s: &[u8]) -> Kind
+    ensures { result ≡ kind_of (letters_of s.now) }
+{
+    if s.len() < 4 {
+        return Kind::None;
+    }
+    kind_by(types::letters(s))
 }

@@ -8,7 +8,7 @@ use scan::Span;
 pub mod field_texts;
 
 // Where a text ends that is being laid out, and whether all of it fitted.
-#[derive(Drop)]
+#[derive(Clone, Copy)]
 pub struct Pen {
     pub at: usize,
     pub ok: bool,

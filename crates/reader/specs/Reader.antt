@@ -1,7 +1,6 @@
 -- The scan of a text gives what Reading asks for, and Reading leaves no choice.
 use Rattle.std.specs.Prelude.{◌≡◌, refl, ◌⊎◌, Bool, true, false, cond, ◌&&◌, List, ℕ, suc, ◌+◌, ◌-◌, ◌≤◌, ◌<◌, length, take, drop, eqb}
-use Rattle.std.proofs.Common.{sym, ◌∙◌, subst, inl, inr, arith, length-take, take-take, eqb-true}
-use Rattle.std.proofs.Math.Path.{ap}
+use Rattle.std.proofs.Common.{sym, ap, ◌∙◌, subst, inl, inr, arith, length-take, take-take, length-take-le, eqb-true}
 use Rattle.std.proofs.lemmas.Bool.{false≢true}
 use Rattle.std.proofs.Math.Seq.{take-length}
 use Rattle.scan.specs.Bools.{and_l, and_r, known}
@@ -9,27 +8,25 @@ use Rattle.scan.specs.declared.Scan.{Scan}
 use Rattle.scan.specs.Grammar.{place_of, size_of, Span, Derives, Reads, Refusal, none, look}
 use Rattle.scan.specs.Scanner.{from, scan_at, spot}
 use Rattle.scan.specs.Tests.{longest}
-use Rattle.scan.specs.Theory.{accepts_of, passed}
+use Rattle.scan.specs.Theory.{place, accepts_of, passed}
 use Rattle.scan.specs.Parts.{reads_derives, one_reading, found, part_within}
-use Rattle.scan.specs.Bounds.{scan_inside, spot_same, refusal_one, refused, short_whole, short_refusal}
+use Rattle.scan.specs.Bounds.{spot_same, refusal_one, refused, short_whole, short_refusal}
 use Rattle.message.specs.declared.Verdict.{Verdict}
 use Rattle.message.specs.declared.Verdict.TheVariants.{Read, Refused}
 use Rattle.message.specs.declared.Record.{Record}
+use Rattle.types.specs.declared.Scanned.{Scanned}
 use Rattle.types.specs.Messages.{message}
 use Rattle.types.specs.Sound.{message_good, message_plain, message_longest}
 use Rattle.fields.specs.Names as n
-use Rattle.types.specs.Arms.{Misses, keys_of, once, arm_of}
-use Rattle.types.specs.Picking.{fpl_arm, other_arms, letters_as, letters_of, Typed, picked_by, unknown_missed, unknown_off}
+use Rattle.types.specs.Picking.{letters_of}
 use Rattle.message.specs.Record.{is_chg, kind_of, record_by, record_of, blank}
-use Rattle.message.specs.declared.Outcome.{Outcome}
-use Rattle.types.specs.Scanned.{Scanned, found_by}
-use Rattle.reader.specs.Texts.{refused_at, said_of, said_by}
+use Rattle.types.specs.Scanned.{found_by, scanned_by, found_all}
 use Rattle.reader.specs.Reading.{hyphens, Judged, answer_of, Answers, cut, route, other, Words}
 
 -- A scan that is whole and reaches the end
 
-pub read_judged : (s : List ℕ) → passed s (scan_at message s 0) ≡ true → Judged s Read (record_by s (λ k. spot k message s (from 0)))
-read_judged s e =
+whole : (s : List ℕ) → passed s (scan_at message s 0) ≡ true → Judged s Read (record_by s (λ k. spot k message s (from 0)))
+whole s e =
     let o : (scan_at message s 0).ok ≡ true = and_l (scan_at message s 0).ok (eqb (scan_at message s 0).next (length s)) e in
     let n : (scan_at message s 0).next ≡ length s = eqb-true (scan_at message s 0).next (length s) (and_r (scan_at message s 0).ok (eqb (scan_at message s 0).next (length s)) e) in
     let f = found message message_good message_plain s 0 o in
@@ -38,7 +35,14 @@ read_judged s e =
     let l : 0 + longest message < 65536 = omega (arith, message_longest) in
     (f.parts, subst (λ (w : List ℕ). Reads message 0 w f.parts) t f.reads, λ i. record_by s (λ k. (spot_same k message s (from 0) l ∙ sym (f.here k)) i))
 
--- x is where the scan ends
+-- then it is what was found
+pub all_found : (s : List ℕ) (q : Scanned) → q ≡ scanned_by message s → passed s q.end ≡ true → q ≡ found_by message s
+all_found s q h e = found_all message s h (and_l q.end.ok (eqb q.end.next (length s)) e)
+
+-- in what follows x is where the scan ends
+pub read_judged : (s : List ℕ) (x : Scan) (r : Record) → x ≡ scan_at message s 0 → passed s x ≡ true → r ≡ record_by s (λ k. spot k message s (from 0)) → Judged s Read r
+read_judged s x r w e p = subst (Judged s Read) (sym p) (whole s (ap (passed s) (sym w) ∙ e))
+
 pub refused_judged : (s : List ℕ) (x : Scan) (n : ℕ) (r : Record) → x ≡ scan_at message s 0 → passed s x ≡ false → n ≡ hyphens (take x.next s) → r ≡ blank → Judged s (Refused x.next n) r
 refused_judged s x n r w e c b = (
   subst (λ (y : Scan). Refusal message s y.next) (sym w)
@@ -46,34 +50,6 @@ refused_judged s x n r w e c b = (
   c,
   b,
 )
-
--- what is said of a text by the grammar of all messages
-pub said_judged : (s : List ℕ) (q : Outcome) → q ≡ said_by (kind_of (letters_of s)) message s → Judged s q.verdict q.«record»
-unfolding said_by found_by
-said_judged s q e = subst (λ (x : Outcome). Judged s x.verdict x.«record») (sym e) (go (known (passed s (scan_at message s 0))))
-  where
-    go : (passed s (scan_at message s 0) ≡ true) ⊎ (passed s (scan_at message s 0) ≡ false) → Judged s (said_by (kind_of (letters_of s)) message s).verdict (said_by (kind_of (letters_of s)) message s).«record»
-    go (inl o) = rw o (read_judged s o)
-    go (inr o) = rw o (refused_judged s (scan_at message s 0) (hyphens (take (scan_at message s 0).next s)) blank refl o refl refl)
-
--- the text is of the type that its letters name
-module _ (a b c : ℕ) (x : a < 256) (y : b < 256) (z : c < 256) (s : List ℕ) (t : Typed s) (w : letters_of s ≡ letters_as a b c) where
-  pub typed_judged : (q : Outcome) → once a b c fpl_arm other_arms ≡ true → q ≡ said_by (kind_of (letters_as a b c)) (arm_of a b c fpl_arm other_arms) s → Judged s q.verdict q.«record»
-  unfolding said_by
-  typed_judged q o e = said_judged s q (e ∙ ap (said_of s (kind_of (letters_as a b c))) (picked_by a b c x y z s t w o) ∙ ap (λ (v : ℕ). said_of s (kind_of v) (found_by message s)) (sym w))
-
--- it is of no type
-pub strange_judged : (s : List ℕ) (place : ℕ) (q : Outcome) → Misses (take 4 s) fpl_arm other_arms → place ≡ (scan_at (keys_of fpl_arm other_arms) s 0).next → q ≡ refused_at s place → Judged s q.verdict q.«record»
-unfolding found_by
-strange_judged s place q m e w =
-    let x : scan_at (keys_of fpl_arm other_arms) s 0 ≡ scan_at message s 0 = ap (λ (z : Scanned). z.end) (unknown_missed s m) in
-    let o : (scan_at message s 0).ok ≡ false = ap (λ (z : Scan). z.ok) (sym x) ∙ unknown_off s m in
-    subst (λ (z : Outcome). Judged s z.verdict z.«record») (sym (w ∙ ap (refused_at s) (e ∙ ap (λ (z : Scan). z.next) x)))
-    (refused_judged s (scan_at message s 0) (hyphens (take (scan_at message s 0).next s)) blank refl (rw o) refl refl)
-
--- the keys do not go past the text
-pub strange_inside : (s : List ℕ) (place : ℕ) → place ≡ (scan_at (keys_of fpl_arm other_arms) s 0).next → place ≤ length s
-strange_inside s place e = rw e (scan_inside (keys_of fpl_arm other_arms) s (from 0) (omega arith))
 
 -- READING LEAVES NO CHOICE
 
@@ -123,8 +99,12 @@ unfolding verdict
 verdict_right s = go (known (passed s (scan_at message s 0)))
   where
     go : (passed s (scan_at message s 0) ≡ true) ⊎ (passed s (scan_at message s 0) ≡ false) → Ruled s (cond (passed s (scan_at message s 0)) Read (Refused (scan_at message s 0).next (hyphens (take (scan_at message s 0).next s))))
-    go (inl e) = rw e (record { its = record_by s (λ k. spot k message s (from 0)); by = read_judged s e })
+    go (inl e) = rw e (record { its = record_by s (λ k. spot k message s (from 0)); by = whole s e })
     go (inr e) = rw e (record { its = blank; by = refused_judged s (scan_at message s 0) (hyphens (take (scan_at message s 0).next s)) blank refl e refl refl })
+
+pub read_verdict : (s : List ℕ) (x : Scan) → x ≡ scan_at message s 0 → passed s x ≡ true → Read ≡ verdict s
+unfolding verdict
+read_verdict s x w e = rw (ap (passed s) (sym w) ∙ e)
 
 pub verdict_only : (s : List ℕ) (v : Verdict) (r : Record) → Judged s v r → v ≡ verdict s
 verdict_only s v r p = let w = verdict_right s in (judged_one s v (verdict s) r w.its p w.by).verdicts
@@ -150,6 +130,11 @@ judged_by_beginning s = go (verdict (take 1078 s)) refl (verdict_right (take 107
         let l : n ≤ 1078 = omega (arith, w.by.0.within, length-take 1078 s) in
         let x : take n (take 1078 s) ≡ take n s = take-take n 1078 s l in
         verdict_only s (Refused n h) blank (r, w.by.1 ∙ ap hyphens x, refl)
+
+-- what the code's slices ask
+
+pub place_within : (s : List ℕ) (x : Scan) → x ≡ scan_at message s 0 → x.next ≡ length (take x.next s)
+place_within s x w = sym (length-take-le x.next s (omega (arith, ap (λ (y : Scan). y.next) w, (place message message_good s).within)))
 
 -- the words of fields 15 and 18 lie within the text
 pub words_within : (s : List ℕ) (v : Verdict) (r : Record) (p : Record → Span) → ((f : ℕ → Span) → (n : ℕ) × (p (record_by s f) ≡ f n)) → p blank ≡ none → Judged s v r → place_of (p r) + size_of (p r) ≤ length s

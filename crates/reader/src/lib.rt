@@ -4,16 +4,9 @@ ghost use Rattle.scan.specs.Grammar.{place_of, size_of};
 ghost use Rattle.message.specs.Record.{blank as blank_of, is_chg};
 ghost use Rattle.reader.specs.Reading.{hyphens as hyphens_of, Judged, cut, Words, route as route_of, other as other_of};
 ghost use Rattle.reader.specs.Reader.{verdict as verdict_of};
-ghost use Rattle.reader.specs.Texts.{refused_at};
-ghost use Rattle.scan.specs.Scanner.{scan_at};
-ghost use Rattle.types.specs.Arms.{keys_of};
-ghost use Rattle.types.specs.Picking.{fpl_arm, other_arms};
 
 use message::{Figures, Kind, Level, LevelKind, Outcome, PlanFigures, PointForm, Record, Verdict};
 use scan::Span;
-
-mod opening;
-mod texts;
 
 // How many hyphens s has, which is short. The count is as wide as a byte, so that sixteen bytes are counted at once.
 fn few_hyphens(s: &[u8]) -> u8
@@ -69,68 +62,32 @@ fn blank() -> Record
     }
 }
 
-// A text that is refused. It is put together where it is handed out, so no function between hands on what this one gives.
-fn refused(s: &[u8], place: usize) -> Outcome
-    requires { place ≤ length s.now }
-    ensures { result ≡ refused_at s.now place }
+// THE READER: what document 01 says of a text, and its record.
+pub fn read(s: &[u8]) -> Outcome
+    ensures { Judged s.now result.verdict result.record }
 {
+    let q = types::scan_any(s);
+    let end = q.end;
+    let place = end.next;
+    if end.ok & (place == s.len()) {
+        // a copy of its own for the numbers, so that the parts go to the record in one piece
+        let figures = message::decoded(s, q.parts);
+        let its = message::kind_in(s);
+        let parts = q.parts;
+        return Outcome {
+            verdict: Verdict::Read,
+            record: Record {
+                kind: its,
+                parts,
+                figures,
+            },
+        };
+    }
     let before = hyphens(&s[..place]);
     Outcome {
         verdict: Verdict::Refused(place, before),
         record: blank(),
     }
-}
-
-// The place at which a text of no type is refused.
-fn strange(s: &[u8]) -> usize
-    ensures { result ≡ (scan_at (keys_of fpl_arm other_arms) s.now 0).next }
-{
-    let k = types::keys(s);
-    k.next
-}
-
-// THE READER: what document 01 says of a text, and its record.
-pub fn read(s: &[u8]) -> Outcome
-    ensures { Judged s.now result.verdict result.record }
-{
-    if s.len() < 4 {
-        return refused(s, strange(s));
-    }
-    if s[0] != b'(' {
-        return refused(s, strange(s));
-    }
-    let w = types::letters(s);
-    if w == 4608076 {
-        return texts::fpl(s);
-    }
-    if w == 4411468 {
-        return texts::cpl(s);
-    }
-    if w == 4543316 {
-        return texts::est(s);
-    }
-    if w == 4409415 {
-        return texts::chg(s);
-    }
-    if w == 4410956 {
-        return texts::cnl(s);
-    }
-    if w == 5395529 {
-        return texts::rti(s);
-    }
-    if w == 5395521 {
-        return texts::rta(s);
-    }
-    if w == 5393473 {
-        return texts::rla(s);
-    }
-    if w == 4997453 {
-        return texts::lam(s);
-    }
-    if w == 5001805 {
-        return texts::lrm(s);
-    }
-    refused(s, strange(s))
 }
 
 fn is_chg(k: Kind) -> bool
@@ -212,6 +169,11 @@ pub fn other(s: &[u8]) -> &[u8]
 pub fn judge(s: &[u8]) -> Verdict
     ensures { result ≡ verdict_of s.now }
 {
-    let q = read(s);
-    q.verdict
+    let q = types::scan_any(s);
+    let end = q.end;
+    let place = end.next;
+    if end.ok & (place == s.len()) {
+        return Verdict::Read;
+    }
+    Verdict::Refused(place, hyphens(&s[..place]))
 }

@@ -6,7 +6,7 @@ use list::{KEPT, Tally};
 const REPORT: i32 = 3;
 
 // What became of the input, or of the output.
-#[derive(Drop)]
+#[derive(Clone, Copy)]
 enum Next {
     More,
     Ended,
@@ -14,7 +14,7 @@ enum Next {
     Unwritten,
 }
 
-#[derive(Drop)]
+#[derive(Clone, Copy)]
 struct Turn {
     tally: Tally,
     next: Next,

@@ -23,7 +23,7 @@ message_in w = message_of w (read_record w)
 -- the record of a text that is read is this one
 pub read_record_lem : (w : List ℕ) (r : Record) → Judged w Read r → r ≡ read_record w
 unfolding read_record
-read_record_lem w r j = ⊎_elim (λ e. one_record w r (record_by w (λ k. spot k message w (from 0))) j (read_judged w e)) (λ e. absurd ((refused_judged w (scan_at message w 0) (hyphens (take (scan_at message w 0).next w)) blank refl e refl refl).0.never (derived_read w r j))) (known (passed w (scan_at message w 0)))
+read_record_lem w r j = ⊎_elim (λ e. one_record w r (record_by w (λ k. spot k message w (from 0))) j (read_judged w (scan_at message w 0) _ refl e refl)) (λ e. absurd ((refused_judged w (scan_at message w 0) (hyphens (take (scan_at message w 0).next w)) blank refl e refl refl).0.never (derived_read w r j))) (known (passed w (scan_at message w 0)))
 
 pub read_message : (w : List ℕ) (r : Record) → Judged w Read r → message_of w r ≡ message_in w
 read_message w r j = ap (message_of w) (read_record_lem w r j)

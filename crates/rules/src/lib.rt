@@ -19,7 +19,7 @@ use scan::Span;
 use types::Number;
 
 // Where the three parts of a flight's key stand in a text.
-#[derive(Drop)]
+#[derive(Clone, Copy)]
 struct KeyParts {
     aircraft: Span,
     departure: Span,
@@ -299,7 +299,7 @@ pub fn names_one<'a>(w: &'a [u8], r: Record, x: &'a [u8], q: Record) -> bool
 // ---- what a call answers
 
 // It is done, with the length of the text that is given; or it refuses, and then nothing has changed.
-#[derive(Drop)]
+#[derive(Clone, Copy)]
 pub enum Answer {
     Done(usize),
     // The place, and the hyphens before it.
@@ -320,7 +320,7 @@ pub enum Answer {
 }
 
 // The answer, and the head as it now is.
-#[derive(Drop)]
+#[derive(Clone, Copy)]
 pub struct Outcome {
     pub answer: Answer,
     pub head: Head,

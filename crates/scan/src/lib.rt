@@ -8,7 +8,7 @@ ghost use Rattle.scan.specs.Texts.{lit as lit_g, byte as byte_g, one as one_g};
 ghost use Rattle.scan.specs.Bools.{Decides};
 
 // Where a scan stopped, and whether what it passed is whole.
-#[derive(Drop)]
+#[derive(Clone, Copy)]
 pub struct Scan {
     pub next: usize,
     pub ok: bool,
@@ -19,7 +19,7 @@ pub struct Scan {
 pub type Span = u32;
 
 // A class of bytes.
-#[derive(Drop)]
+#[derive(Clone, Copy)]
 pub enum Class {
     Letter,
     Digit,

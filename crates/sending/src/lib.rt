@@ -24,7 +24,7 @@ use rules::{Answer, Outcome};
 use unanswered::Shown;
 
 // What one place shows: whether it is well formed, and whether its message names this one's flight, or makes one.
-#[derive(Drop)]
+#[derive(Clone, Copy)]
 struct Seen {
     sound: bool,
     named: bool,
@@ -32,7 +32,7 @@ struct Seen {
 }
 
 // What all 16 show: whether they are well formed (12), whether a message names this one's flight (7), how many make one (11).
-#[derive(Drop)]
+#[derive(Clone, Copy)]
 struct Surveyed {
     sound: bool,
     named: bool,

@@ -1,5 +1,5 @@
 -- A text's first four bytes pick the message that it can be.
-use Rattle.std.specs.Prelude.{◌≡◌, ◌⊎◌, Bool, not, ◌&&◌, ◌||◌, ℕ, suc, ◌+◌, ◌-◌, ◌≤◌, ◌<◌, length, get_or, take, drop, leb, ltb, eqb}
+use Rattle.std.specs.Prelude.{◌≡◌, ◌⊎◌, Bool, not, ◌&&◌, ℕ, suc, ◌+◌, ◌-◌, ◌≤◌, ◌<◌, length, get_or, take, drop, leb, ltb, eqb}
 use Rattle.std.proofs.Math.Path.{refl, sym, ap}
 use Rattle.std.proofs.Common.{◌∙◌, inl, inr, arith, add-one, length-drop, drop-cons}
 use Rattle.std.proofs.Math.Logic.{⊎_elim}
@@ -15,7 +15,8 @@ use Rattle.scan.specs.Texts.{lit, byte}
 use Rattle.scan.specs.Scanner.{run_at, run_scan, scan, from, scan_at, longer, leads, occurs, span_by, spot}
 use Rattle.scan.specs.Theory.{skip}
 use Rattle.scan.specs.Bounds.{scan_forth, spot_stays}
-use Rattle.types.specs.Scanned.{Scanned, parts_of, found_by, stopped_at}
+use Rattle.types.specs.declared.Scanned.{Scanned}
+use Rattle.types.specs.Scanned.{parts_of, found_by, stopped_at}
 
 -- A given text
 
@@ -45,7 +46,7 @@ next_stands b s w at e =
     let x : get_or s at 0 ≡ b = head-eq_of_cons-eq (sym (drop-cons s at 0 h) ∙ e) in
     rw (lt-ltb at (length s) h, x, le-leb b b (omega arith))
 
-pub lit_hit : (key s : List ℕ) (at : ℕ) → take (length key) (drop at s) ≡ key → scan (lit key) s (from at) ≡ from (at + length key)
+lit_hit : (key s : List ℕ) (at : ℕ) → take (length key) (drop at s) ≡ key → scan (lit key) s (from at) ≡ from (at + length key)
 lit_hit [] s at e = λ i. from (let z : at ≡ at + 0 = omega arith in z i)
 lit_hit (b ∷ key) s at e = go (lit_hit key s (at + 1)) (drop at s) refl e
   where
@@ -157,18 +158,6 @@ module _ (s : List ℕ) where
   pub missed : (x : Arm) (xs : List Arm) → Misses (take 4 s) x xs → stopped_at (scan_at (keys_of x xs) s 0) ≡ found_by (alt_of x xs) s
   unfolding found_by
   missed x xs m = sym (λ i. record { end = missed_end x xs m i; parts = parts_of (λ n. missed_spot x xs m n i) })
-
-  -- then the keys are not whole
-  pub missed_off : (x : Arm) (xs : List Arm) → Misses (take 4 s) x xs → (scan_at (keys_of x xs) s 0).ok ≡ false
-  unfolding longer
-  missed_off x [] m = not_ok x m
-  missed_off x (y ∷ ys) m = neither (scan_at (lit (key_of x)) s 0) (scan_at (keys_of y ys) s 0) (not_ok x m.0) (missed_off y ys m.1)
-    where
-      off : (x y : Bool) → x ≡ false → y ≡ false → x || y ≡ false
-      off x y h k = rw (h, k)
-
-      neither : (p q : Scan) → p.ok ≡ false → q.ok ≡ false → (longer p q).ok ≡ false
-      neither p q h k = ⊎_elim (λ e. rw e k) (λ e. rw e (⊎_elim (λ f. rw f h) (λ f. rw f (off p.ok q.ok h k)) (known (ltb q.next p.next)))) (known (ltb p.next q.next))
 
   missed_short : (x : Arm) (xs : List Arm) → Misses (take 4 s) x xs → (scan_at (alt_of x xs) s 0).next < 4
   unfolding longer

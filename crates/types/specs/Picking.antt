@@ -1,13 +1,13 @@
 -- The ten messages as arms, picked by the three letters of the type.
-use Rattle.std.specs.Prelude.{◌≡◌, refl, ℕ, ◌+◌, ◌*◌, ◌≤◌, ◌<◌, length, get_or, take, true, false}
+use Rattle.std.specs.Prelude.{◌≡◌, refl, ℕ, ◌+◌, ◌*◌, ◌≤◌, ◌<◌, length, get_or, take, true}
 use Rattle.std.proofs.Common.{sym, ap, ◌∙◌, arith, length-take}
 use mathlib.Core.List.{List, [], ◌∷◌, head-eq_of_cons-eq}
 use Rattle.scan.specs.Grammar.{G}
-use Rattle.scan.specs.Texts.{lit}
-use Rattle.scan.specs.Scanner.{from, scan_at}
+use Rattle.scan.specs.Scanner.{scan_at}
+use Rattle.types.specs.declared.Scanned.{Scanned}
 use Rattle.types.specs.Messages.{fpl, cpl, est, chg, cnl, rti, rta, rla, lam, lrm, message}
-use Rattle.types.specs.Scanned.{Scanned, found_by, stopped_at}
-use Rattle.types.specs.Arms.{Arm, led_lit, led_seq, alt_of, keys_of, Misses, all_miss, lit_hit, missed, missed_off, picked, once, arm_of}
+use Rattle.types.specs.Scanned.{scanned_by, stopped_at, told, told_stopped}
+use Rattle.types.specs.Arms.{Arm, led_lit, led_seq, alt_of, keys_of, Misses, all_miss, missed, picked, once, arm_of}
 
 unfoldable pub fpl_arm : Arm
 unfolding fpl
@@ -92,29 +92,24 @@ pub typed : (s : List ℕ) → 4 ≤ length s → get_or s 0 0 ≡ 40 → get_or
 typed s h o a b c = record { long = h; opens = o; one = a; two = b; three = c }
 
 -- a text is scanned as the message whose letters it has
-module _ (a b c : ℕ) (k : a < 256) (l : b < 256) (m : c < 256) (s : List ℕ) (t : Typed s) (w : letters_of s ≡ letters_as a b c) where
-  key_there : take 4 s ≡ 40 ∷ a ∷ b ∷ c ∷ []
-  key_there =
-      let h = t.one in
-      let i = t.two in
-      let j = t.three in
-      let x : get_or s 1 0 ≡ a = omega arith in
-      let y : get_or s 2 0 ≡ b = omega arith in
-      let z : get_or s 3 0 ≡ c = omega arith in
-      take4 s t.long ∙ rw (t.opens, x, y, z)
-
-  pub begun : scan_at (lit (40 ∷ a ∷ b ∷ c ∷ [])) s 0 ≡ from 4
-  begun = lit_hit (40 ∷ a ∷ b ∷ c ∷ []) s 0 key_there
-
-  pub picked_by : once a b c fpl_arm other_arms ≡ true → found_by (arm_of a b c fpl_arm other_arms) s ≡ found_by message s
-  picked_by o = picked a b c s key_there fpl_arm other_arms o ∙ ap {B = Scanned} (λ (g : G). found_by g s) message_arms
+pub picked_by : (a b c : ℕ) → a < 256 → b < 256 → c < 256 → once a b c fpl_arm other_arms ≡ true → (s : List ℕ) (q : Scanned) → Typed s → letters_of s ≡ letters_as a b c → q ≡ scanned_by (arm_of a b c fpl_arm other_arms) s → q ≡ scanned_by message s
+unfolding scanned_by
+picked_by a b c k l m o s q t w e =
+    let h = t.one in
+    let i = t.two in
+    let j = t.three in
+    let x : get_or s 1 0 ≡ a = omega arith in
+    let y : get_or s 2 0 ≡ b = omega arith in
+    let z : get_or s 3 0 ≡ c = omega arith in
+    e ∙ ap told (picked a b c s (take4 s t.long ∙ rw (t.opens, x, y, z)) fpl_arm other_arms o) ∙ ap {B = Scanned} (λ (g : G). scanned_by g s) message_arms
 
 -- no type begins so
-pub unknown_missed : (s : List ℕ) → Misses (take 4 s) fpl_arm other_arms → stopped_at (scan_at (keys_of fpl_arm other_arms) s 0) ≡ found_by message s
-unknown_missed s m = missed s fpl_arm other_arms m ∙ ap {B = Scanned} (λ (g : G). found_by g s) message_arms
+abbrev pub unknown_of : List ℕ → Scanned
+unknown_of s = stopped_at (scan_at (keys_of fpl_arm other_arms) s 0)
 
-pub unknown_off : (s : List ℕ) → Misses (take 4 s) fpl_arm other_arms → (scan_at (keys_of fpl_arm other_arms) s 0).ok ≡ false
-unknown_off s m = missed_off s fpl_arm other_arms m
+pub unknown_missed : (s : List ℕ) (q : Scanned) → Misses (take 4 s) fpl_arm other_arms → q ≡ unknown_of s → q ≡ scanned_by message s
+unfolding scanned_by
+unknown_missed s q m e = e ∙ told_stopped (scan_at (keys_of fpl_arm other_arms) s 0) ∙ ap told (missed s fpl_arm other_arms m) ∙ ap {B = Scanned} (λ (g : G). scanned_by g s) message_arms
 
 pub short_misses : (s : List ℕ) → length s < 4 → Misses (take 4 s) fpl_arm other_arms
 short_misses s h = all_miss (take 4 s) (λ a b c e. omega (arith, ap length e, length-take 4 s)) fpl_arm other_arms

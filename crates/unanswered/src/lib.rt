@@ -14,7 +14,7 @@ use places::Place;
 use scan::Span;
 
 // What a place shows beside its text: it is not well formed, it is free, or it has the shape of a message.
-#[derive(Drop)]
+#[derive(Clone, Copy)]
 pub enum Shown {
     Broken,
     Empty,

@@ -82,6 +82,10 @@ word_bit_lem x h l =
 pub word_low : (x : ℕ) → x < 39 → false ≡ is_in Word x
 word_low x h = rw (lt-leb 63 x (omega arith), lt-leb 39 x (omega arith), lt-leb 43 x (omega arith), lt-leb 46 x (omega arith), lt-leb 65 x (omega arith))
 
+pub word_high : (x : ℕ) → 90 < x → false ≡ is_in Word x
+word_high x h =
+    rw (le-leb 63 x (omega arith), le-leb 39 x (omega arith), le-leb 43 x (omega arith), le-leb 46 x (omega arith), le-leb 65 x (omega arith), lt-leb x 63 (omega arith), lt-leb x 39 (omega arith), lt-leb x 44 (omega arith), lt-leb x 58 (omega arith), lt-leb x 90 (omega arith))
+
 -- from 65 on only letters are
 pub word_letter : (x : ℕ) → 65 ≤ x → leb x 90 ≡ is_in Word x
 word_letter x h =

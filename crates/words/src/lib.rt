@@ -9,7 +9,7 @@ ghost use Rattle.scan.specs.Scanner.{words_at, scan};
 use scan::{Class, Scan};
 
 // Where words stand after some of their bytes: the next byte, how many still fit, and whether a word byte stands just before.
-#[derive(Drop)]
+#[derive(Clone, Copy)]
 struct Ahead {
     next: usize,
     left: usize,

@@ -15,7 +15,7 @@ use types::Number;
 
 // What becomes of a record: its text, of this length, is in the buffer; or no text reads back as it; or its text is longer
 // than the buffer.
-#[derive(Drop)]
+#[derive(Clone, Copy)]
 pub enum Writing {
     Written(usize),
     BreaksRule,
@@ -58,7 +58,7 @@ pub fn write(r: Record, d: &[u8], out: &mut [u8]) -> Writing
 // ---- texts that are sent: what a record says, under the number that the link gives. The record's own number is not looked at
 
 // What becomes of a record: its text, of this length, is in the buffer; or no text says it.
-#[derive(Drop)]
+#[derive(Clone, Copy)]
 pub enum Drafting {
     Written(usize),
     BreaksRule,

@@ -1,7 +1,7 @@
-use Rattle.message.specs.Figures.{no_plan_figures}
+use borrow.Author.Rules.{rules}
 use Rattle.message.proofs.plan_figures.Statement.{statement}
 use Rattle.message.proofs.plan_figures.Tie as tie
 
 pub plan_figures_spec : {M : Type 1} → statement M
 plan_figures_spec =
-    tie.close (tie.spec (λ c κs. tt) (λ c κs. tt) (λ c. no_plan_figures _ c.before.before.before.before.args.count c.before.before.before.before.args.level _ _ c.before.before.absent.ensures c.before.absent2.ensures c.if1.true) (λ c κs. tt) (λ c. c.both-figures.ensures))
+    tie.close (tie.spec (λ c. search rules) (λ c. search rules) (λ c κs. search rules) (λ c κs. tt) (λ c. rw (c.level_in.ensures, c.before.figure.ensures)))

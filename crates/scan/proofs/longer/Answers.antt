@@ -1,0 +1,15 @@
+use borrow.Author.Tests.{lt-ltb, le-ltb}
+use Rattle.scan.specs.Scanner.{longer}
+use Rattle.scan.proofs.longer.Goals as goal
+
+pub returns-then-a-b : goal.returns-then-a-b
+unfolding longer
+returns-then-a-b c = simp (lt-ltb _ _ c.if-a-b.true)
+
+pub returns-then-b-a : goal.returns-then-b-a
+unfolding longer
+returns-then-b-a c = simp (le-ltb _ _ c.if-a-b.false, lt-ltb _ _ c.if-b-a.true)
+
+pub returns : goal.returns
+unfolding longer
+returns c = simp (le-ltb _ _ c.if-a-b.false, le-ltb _ _ c.if-b-a.false)

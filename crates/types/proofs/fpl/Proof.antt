@@ -1,0 +1,44 @@
+use mathlib.Core.Path.{◌∙◌}
+use Rattle.scan.specs.Grammar.{none}
+use Rattle.scan.specs.Texts.{byte}
+use Rattle.scan.specs.Picks.{it, in_seq, then}
+use Rattle.scan.specs.Scanner.{scan, among, occurs, span_by}
+use Rattle.fields.specs.Found.{found13, found15, found16, found18}
+use Rattle.changes.specs.Found.{no_plan}
+use Rattle.types.specs.Messages.{fpl}
+use Rattle.types.specs.Scanned.{opened_by, front_of, found_by, no_estimate, filed_by, whole_by, stops, tells}
+use Rattle.types.proofs.fpl.Statement.{statement}
+use Rattle.types.proofs.fpl.Tie as tie
+
+returns : tie.Need-returns
+unfolding opened_by fpl front_of
+returns c =
+    stops (then (then (then (then (then (then (then (then (in_seq it))))))))) c.before.before.before.before.before.before.before.before.before.args.s.now c.before.before.before.before.front.result.end (rw (c.before.before.before.before.front.ensures, c.before.before.before.before.before.byte.ensures, c.before.before.before.before.before.before.before.opened.ensures)) c.before.if1.true c.stopped.ensures
+
+returns-2 : tie.Need-returns-2
+unfolding opened_by fpl front_of
+returns-2 c =
+    stops it c.before.before.before.before.before.before.before.before.before.before.before.before.before.before.before.before.before.before.before.before.before.before.before.before.args.s.now c.before.before.before.byte6.result (rw (c.before.before.before.byte6.ensures, c.before.before.before.before.before.field18.ensures, c.before.before.before.before.before.before.byte5.ensures, c.before.before.before.before.before.before.before.before.field16.ensures, c.before.before.before.before.before.before.before.before.before.byte4.ensures, c.before.before.before.before.before.before.before.before.before.before.before.field15.ensures, c.before.before.before.before.before.before.before.before.before.before.before.before.byte3.ensures, c.before.before.before.before.before.before.before.before.before.before.before.before.before.before.field13.ensures, c.before.before.before.before.before.before.before.before.before.before.before.before.before.before.before.byte2.ensures, c.before.before.before.before.before.before.before.before.before.before.before.before.before.before.before.before.before.before.before.front.ensures, c.before.before.before.before.before.before.before.before.before.before.before.before.before.before.before.before.before.before.before.before.byte.ensures, c.before.before.before.before.before.before.before.before.before.before.before.before.before.before.before.before.before.before.before.before.before.before.opened.ensures)) c.before.if2.true c.stopped2.ensures
+
+returns-3 : tie.Need-returns-3
+unfolding found_by opened_by fpl front_of among occurs span_by
+returns-3 c =
+    let s = c.before.before.before.before.before.before.before.before.before.before.before.before.before.before.before.before.before.before.before.before.before.before.before.before.before.args.s.now in
+    let p0 = c.before.before.before.before.before.before.before.before.before.before.before.before.before.before.before.before.before.before.before.before.before.before.before.opened.ensures in
+    let p1 = c.before.before.before.before.before.before.before.before.before.before.before.before.before.before.before.before.before.before.before.before.before.byte.ensures ∙ (λ i. scan (byte 45) s (p0 i).end) in
+    let p2 = c.before.before.before.before.before.before.before.before.before.before.before.before.before.before.before.before.before.before.before.before.front.ensures ∙ (λ i. front_of s (p1 i)) in
+    let p3 = c.before.before.before.before.before.before.before.before.before.before.before.before.before.before.before.before.byte2.ensures ∙ (λ i. scan (byte 45) s (p2 i).end) in
+    let p4 = c.before.before.before.before.before.before.before.before.before.before.before.before.before.before.before.field13.ensures ∙ (λ i. found13 0 s (p3 i)) in
+    let p5 = c.before.before.before.before.before.before.before.before.before.before.before.before.before.byte3.ensures ∙ (λ i. scan (byte 45) s (p4 i).end) in
+    let p6 = c.before.before.before.before.before.before.before.before.before.before.before.before.field15.ensures ∙ (λ i. found15 0 s (p5 i)) in
+    let p7 = c.before.before.before.before.before.before.before.before.before.before.byte4.ensures ∙ (λ i. scan (byte 45) s (p6 i).end) in
+    let p8 = c.before.before.before.before.before.before.before.before.before.field16.ensures ∙ (λ i. found16 0 s (p7 i)) in
+    let p9 = c.before.before.before.before.before.before.before.byte5.ensures ∙ (λ i. scan (byte 45) s (p8 i).end) in
+    let p10 = c.before.before.before.before.before.before.field18.ensures ∙ (λ i. found18 0 s (p9 i)) in
+    let p11 = c.before.before.before.before.byte6.ensures ∙ (λ i. scan (byte 41) s (p10 i).end) in
+    let p12 = c.before.filed.ensures ∙ (λ i. filed_by (p2 i) (p4 i) (p6 i) (p8 i) (p10 i)) in
+    let p13 = c.planned.ensures ∙ (λ i. whole_by (p11 i) (p0 i) (p12 i) no_estimate no_plan none none none) in
+    tells fpl s _ p11 c.before.before.if2.false p13
+
+pub fpl_spec : {M : Type 1} → statement M
+fpl_spec = tie.close (tie.spec (λ c κs. tt) (λ c κs. tt) (λ c κs. tt) (λ c κs. tt) returns (λ c κs. tt) (λ c κs. tt) (λ c κs. tt) (λ c κs. tt) (λ c κs. tt) (λ c κs. tt) (λ c κs. tt) (λ c κs. tt) (λ c κs. tt) (λ c κs. tt) returns-2 (λ c κs. tt) (λ c κs. tt) returns-3)
