@@ -1,4 +1,6 @@
 // The answers that were given: 1,000 bytes, one for each number.
+#![tactic(auto)]
+
 ghost use Rattle.std.specs.Prelude.{◌≡◌, ◌≤◌, length};
 ghost use Rattle.scan.specs.Bools.{Decides};
 ghost use Rattle.answers.specs.Given.{AnswersFormed, forgotten};

@@ -1,4 +1,6 @@
 // What may stand in a CHG after field 16: its own field 18 or none, then one or more fields 22 in ascending order.
+#![tactic(auto)]
+
 ghost use Rattle.std.specs.Prelude.{◌≡◌, [], ◌∷◌};
 ghost use Rattle.scan.specs.Scanner.{scan as scan_g};
 ghost use Rattle.scan.specs.Texts.{◌⨾◌, byte, lit, opt};

@@ -1,5 +1,7 @@
 // Lays out the text of a record: the parts in the order of their fields, with what stands between them. Whether it is a text
 // that is read is not asked here.
+#![tactic(auto)]
+
 ghost use Rattle.std.specs.Prelude.{◌≡◌, List, [], ◌∷◌, ℕ};
 ghost use Rattle.pen.specs.Laying.{Adds, own_blocks, own_spans, change_blocks, rest_blocks, rest_spans, start, opening, blocks, spans};
 ghost use Rattle.changes.specs.Found.{plan_spans};

@@ -1,4 +1,6 @@
 // What a message does to the flight that it names: whether it may be done, and the record afterwards.
+#![tactic(auto)]
+
 ghost use Rattle.std.specs.Prelude.{◌≡◌, ◌&&◌, ◌+◌, ◌≤◌, ◌<◌, length, get_or, eqb};
 ghost use Rattle.scan.specs.Grammar.{place_of, size_of};
 ghost use Rattle.reader.specs.Reading.{cut, Judged};

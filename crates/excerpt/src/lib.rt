@@ -1,5 +1,7 @@
 // The texts that a flight's record keeps of a message, field by field: each is laid at the start of a buffer, and its length
 // is answered. Aircraft, code, departure, time and destination are parts of the message as they stand.
+#![tactic(auto)]
+
 ghost use Rattle.std.specs.Prelude.{◌≡◌, ◌≤◌, length};
 ghost use Rattle.reader.specs.Reading.{cut};
 ghost use Rattle.pen.specs.Listed.{Inside};

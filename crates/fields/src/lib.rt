@@ -1,4 +1,6 @@
 // Document 01's fields: each function mirrors the grammar of one field and notes where its parts stand.
+#![tactic(auto)]
+
 ghost use Rattle.std.specs.Prelude.{◌≡◌};
 ghost use Rattle.scan.specs.Scanner.{scan as scan_g};
 ghost use Rattle.fields.specs.Fields.{counted as counted_g, hour as hour_g, minute as minute_g, timed, levelled, bearing as bearing_g};

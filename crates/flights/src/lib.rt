@@ -1,4 +1,6 @@
 // Flight records of 768 bytes.
+#![tactic(auto)]
+
 ghost use Rattle.std.specs.Prelude.{◌≡◌, ◌+◌, ◌*◌, ◌≤◌, ◌<◌, length, take, drop, [], ◌∷◌};
 ghost use Rattle.splice.specs.Splice.{splice};
 ghost use Rattle.places.specs.Bytes.{high, low};

@@ -1,5 +1,7 @@
 // The head of a link: who the two ends are, the next number to give and the highest that was received. It goes in whole and
 // comes back whole.
+#![tactic(auto)]
+
 ghost use Rattle.std.specs.Prelude.{◌≡◌};
 ghost use Rattle.scan.specs.Bools.{Decides};
 ghost use Rattle.head.specs.Head.{after, standing, received, given};

@@ -1,5 +1,7 @@
 // A message that is no answer comes to an end of a link. Whatever is decided is decided before anything is written: the last
 // check is that of the room for the answer.
+#![tactic(auto)]
+
 ghost use Rattle.std.specs.Prelude.{◌≡◌, true, List, ℕ, ◌≤◌, length};
 ghost use Rattle.scan.specs.Grammar.{Derives};
 ghost use Rattle.types.specs.Messages.{message as a_message};

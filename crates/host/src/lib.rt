@@ -1,4 +1,6 @@
 // What the bench host in C calls.
+#![tactic(auto)]
+
 ghost use Rattle.reader.specs.Reading.{route as route_of, other as other_of};
 ghost use Rattle.flights.specs.Flight.{WellFormed};
 ghost use Rattle.flights.specs.Formed.{TableFormed};

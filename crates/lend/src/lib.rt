@@ -1,6 +1,8 @@
 // The calls on a head that is lent: whoever keeps an end lends its head to be changed where it lies, as it lends the memory and the
 // buffer. Each copies the head out, makes the call of `link` on the copy and puts back the head that comes with the answer.
 // Nothing is decided here: what a call does, and that a refusal changes nothing, is what `link` ensures.
+#![tactic(auto)]
+
 ghost use Rattle.std.specs.Prelude.{length};
 ghost use Rattle.memory.specs.End.{lent};
 ghost use Rattle.rules.specs.Receiving.{receive as receive_of};

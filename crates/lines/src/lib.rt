@@ -1,4 +1,6 @@
 // What the listing says of one line.
+#![tactic(auto)]
+
 ghost use Rattle.std.specs.Prelude.{◌≡◌, [], ◌∷◌, ◌++◌, ◌+◌, ◌≤◌, ◌<◌, min, length, take, drop};
 ghost use Rattle.reader.specs.Reader.{verdict};
 ghost use Rattle.lines.specs.Numbers.{decimal};

@@ -1,4 +1,6 @@
 // One end of a link: a text comes, or is asked for again. Setting up stands in beginning, sending in dispatch.
+#![tactic(auto)]
+
 ghost use Rattle.std.specs.Prelude.{length};
 ghost use Rattle.reader.specs.Reading.{Judged};
 ghost use Rattle.message.specs.declared.Verdict.TheVariants.{Read};

@@ -1,5 +1,7 @@
 // Lists the texts of an input, a line for each, and the totals. The input comes in pieces of any size, and the report
 // leaves in parts: nothing here grows with the input.
+#![tactic(auto)]
+
 ghost use Rattle.std.specs.Prelude.{◌≡◌, true, List, [], ◌++◌, ℕ, ◌+◌, ◌≤◌, ◌<◌, length, take};
 ghost use Rattle.reader.specs.Reader.{verdict};
 ghost use Rattle.splice.specs.Splice.{Spliced};

@@ -1,4 +1,6 @@
 // The memory that is lent for one link.
+#![tactic(auto)]
+
 ghost use Rattle.scan.specs.Bools.{Decides};
 ghost use Rattle.memory.specs.End.{lent, Formed, FormedBeside};
 

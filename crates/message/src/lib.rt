@@ -1,4 +1,6 @@
 // A text is read, with its record, or refused with its place.
+#![tactic(auto)]
+
 ghost use Rattle.std.specs.Prelude.{◌≡◌, ◌+◌, ◌-◌, ◌≤◌, ◌<◌, get_or, eqb};
 ghost use Rattle.scan.specs.Grammar.{place_of, size_of};
 ghost use Rattle.types.specs.Picking.{letters_of};

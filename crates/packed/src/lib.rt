@@ -1,4 +1,6 @@
 // The record of a message as 246 bytes: a row of 123 numbers, two bytes for each, high byte first.
+#![tactic(auto)]
+
 ghost use Rattle.std.specs.Prelude.{◌≡◌, [], ◌∷◌, ◌++◌, ◌+◌, ◌*◌, ◌≤◌, length, drop};
 ghost use Rattle.packed.specs.Packed.{span_numbers, part_spans, parts_numbers, level_numbers, plan_figure_numbers, figure_numbers, packed_of};
 ghost use Rattle.packed.specs.Laid.{Puts};

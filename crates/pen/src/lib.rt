@@ -1,4 +1,6 @@
 // Lays a text out part by part.
+#![tactic(auto)]
+
 ghost use Rattle.std.specs.Prelude.{List, [], ◌∷◌, ℕ};
 ghost use Rattle.reader.specs.Reading.{cut};
 ghost use Rattle.pen.specs.Laying.{Adds, led_by, text_number};

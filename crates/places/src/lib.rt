@@ -1,4 +1,6 @@
 // Places of one size, one after the other, each free or in use, and the bytes that these hold.
+#![tactic(auto)]
+
 ghost use Rattle.std.specs.Prelude.{◌≡◌, ◌+◌, ◌≤◌, length};
 ghost use Rattle.places.specs.Bytes.{each, same as same_b, number_at, word_at};
 

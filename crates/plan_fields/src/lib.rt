@@ -1,4 +1,6 @@
 // Message numbers and the fields of a plan, each with its parts.
+#![tactic(auto)]
+
 ghost use Rattle.std.specs.Prelude.{◌≡◌, true, ◌≤◌};
 ghost use Rattle.scan.specs.Scanner.{scan as scan_g};
 ghost use Rattle.fields.specs.Fields.{rest16 as rest16_g};

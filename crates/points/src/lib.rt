@@ -1,4 +1,6 @@
 // Points, and field 14 that begins with one.
+#![tactic(auto)]
+
 ghost use Rattle.std.specs.Prelude.{◌≡◌, ◌&&◌, not};
 ghost use Rattle.scan.specs.declared.Class.TheVariants.{Alnum};
 ghost use Rattle.scan.specs.Texts.{one as one_g};

@@ -1,4 +1,6 @@
 // The reader: a text is read or refused with a place, and its words are lent as part of it.
+#![tactic(auto)]
+
 ghost use Rattle.std.specs.Prelude.{◌≡◌, ◌+◌, ◌-◌, ◌≤◌, ◌<◌, length};
 ghost use Rattle.scan.specs.Grammar.{place_of, size_of};
 ghost use Rattle.message.specs.Record.{blank as blank_of, is_chg};

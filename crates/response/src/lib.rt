@@ -1,4 +1,6 @@
 // The text of an answer to a message that was read, laid out from that message's own parts.
+#![tactic(auto)]
+
 ghost use Rattle.std.specs.Prelude.{◌≤◌, ◌<◌, length};
 ghost use Rattle.reader.specs.Reading.{Judged};
 ghost use Rattle.message.specs.declared.Verdict.TheVariants.{Read};

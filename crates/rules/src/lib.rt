@@ -1,4 +1,6 @@
 // The rules of an end: tests of types and units, and what a call answers. What the calls do stands in link.
+#![tactic(auto)]
+
 ghost use Rattle.std.specs.Prelude.{◌≡◌, ◌&&◌, eqb};
 ghost use Rattle.reader.specs.Reading.{cut, Judged};
 ghost use Rattle.message.specs.declared.Verdict.TheVariants.{Read};

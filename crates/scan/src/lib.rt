@@ -1,4 +1,6 @@
 // Scanners that mirror a grammar: each gives where the longest viable beginning ends, and whether it is whole.
+#![tactic(auto)]
+
 ghost use Rattle.std.specs.Prelude.{◌≡◌, cond, false, ◌≤◌, ◌<◌};
 ghost use Rattle.scan.specs.Grammar.{is_in, all, none as none_of, run as run_g, Derives};
 ghost use Rattle.scan.specs.declared.Class.TheVariants.{Word};

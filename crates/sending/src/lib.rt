@@ -1,4 +1,6 @@
 // Sending a message whose text is laid out already: everything is decided before anything is written.
+#![tactic(auto)]
+
 ghost use Rattle.std.specs.Prelude.{◌≡◌, ℕ, ◌<◌, List, true, length};
 ghost use Rattle.message.specs.declared.Verdict.TheVariants.{Read};
 ghost use Rattle.reader.specs.Reading.{Judged};

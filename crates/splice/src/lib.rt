@@ -1,4 +1,6 @@
 // Bytes that are written into a buffer.
+#![tactic(auto)]
+
 ghost use Rattle.std.specs.Prelude.{◌+◌, ◌≤◌, length, replicate};
 ghost use Rattle.splice.specs.Splice.{Spliced};
 

@@ -1,4 +1,6 @@
 // The ten types of message: each function mirrors one line of document 01's table and notes where the parts stand.
+#![tactic(auto)]
+
 ghost use Rattle.std.specs.Prelude.{◌≡◌, [], ◌∷◌, ◌≤◌, length};
 ghost use Rattle.scan.specs.Grammar.{none};
 ghost use Rattle.scan.specs.Texts.{lit};

@@ -1,4 +1,6 @@
 // Unanswered messages: 16 places of 1,280 bytes.
+#![tactic(auto)]
+
 ghost use Rattle.std.specs.Prelude.{◌≡◌, ◌+◌, ◌*◌, ◌≤◌, ◌<◌, length};
 ghost use Rattle.scan.specs.Grammar.{place_of, size_of};
 ghost use Rattle.scan.specs.Bools.{Decides};

@@ -1,4 +1,6 @@
 // Words and the single blanks between them, by blocks of sixteen bytes.
+#![tactic(auto)]
+
 ghost use Rattle.std.specs.Prelude.{◌≡◌, false, ◌≤◌, ◌<◌, length};
 ghost use Rattle.scan.specs.Grammar.{is_in, words as words_g};
 ghost use Rattle.scan.specs.declared.Class.TheVariants.{Word};

@@ -1,5 +1,7 @@
 // Writes the text of a record: its parts are laid out in the order of their fields, and what the reader makes of that is
 // held against the record. So the rules are the reader's, and there is no second set of them.
+#![tactic(auto)]
+
 ghost use Rattle.scan.specs.Bools.{Decides};
 ghost use Rattle.writer.specs.Comparing.{Back};
 ghost use Rattle.writer.specs.Writing.{Wrote};

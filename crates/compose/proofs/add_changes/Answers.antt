@@ -1,0 +1,20 @@
+-- `compose::add_changes` meets its contract.
+use borrow.Author.Rules.{rules}
+use mathlib.Core.List.{[], ◌∷◌}
+use Rattle.pen.specs.Laying.{then, pair_both}
+use Rattle.compose.proofs.add_changes.Goals as goal
+
+pub returns : goal.returns
+returns c =
+    let a = c.args in
+    then c.text-2-1.ensures
+    (then c.add_09-p3.ensures
+    (then c.add_10-arg-3-1.ensures
+    (then c.add_pair-arg-5-1.ensures
+    (then (pair_both (45 ∷ 49 ∷ 51 ∷ 47 ∷ []) a.d.now a.o.departure a.o.time c.add_15-arg-1.ensures)
+    (then c.slice_known-7-1.ensures
+    (then c.text-7-1.ensures
+    c.add_18.ensures))))))
+
+pub shape_of-text : goal.shape_of-text
+shape_of-text c = (laid (goal.at.shape_of-text c).After-slice_known-9-1).size

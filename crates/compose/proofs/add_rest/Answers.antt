@@ -1,0 +1,18 @@
+-- `compose::add_rest` meets its contract.
+use borrow.Author.Rules.{rules}
+use Rattle.pen.specs.Laying.{then}
+use Rattle.compose.proofs.add_rest.Goals as goal
+
+pub returns : goal.returns
+returns c =
+    let a = c.args in
+    then c.text-2-1.ensures
+    (then c.add_changes-p3.ensures
+    (then c.add_led-arg-2-1.ensures
+    (then c.add_led-arg-4-1.ensures
+    (then c.slice_known-6-1.ensures
+    (then c.text-6-1.ensures
+    (c.add.ensures a.d.now))))))
+
+pub shape_of-text : goal.shape_of-text
+shape_of-text c = (laid (goal.at.shape_of-text c).After-slice_known-8-1).size

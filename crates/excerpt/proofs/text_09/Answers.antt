@@ -1,0 +1,14 @@
+-- `excerpt::text_09` meets its contract.
+use borrow.Author.Rules.{rules}
+use mathlib.Core.List.{append-nil}
+use native.Mathlib.Omega.{arith}
+use Rattle.excerpt.specs.Excerpt.{texts_of}
+use Rattle.excerpt.specs.Fitting.{stretch, starts}
+use Rattle.changes.specs.Found.{plan_spans}
+use Rattle.excerpt.proofs.text_09.Goals as goal
+
+pub returns : goal.returns
+returns c =
+    let a = c.args in
+    let h = c.requires in
+    starts (texts_of a.w.now a.p).field09 (append-nil (texts_of a.w.now a.p).field09) (omega (arith, h.0.short.field09, h.1)) (stretch a.w.now (plan_spans a.p) 4 3 h.0.inside) c.add_09-r.ensures

@@ -1,0 +1,14 @@
+-- `excerpt::text_10` meets its contract.
+use borrow.Author.Rules.{rules}
+use mathlib.Core.List.{append-nil}
+use native.Mathlib.Omega.{arith}
+use Rattle.excerpt.specs.Excerpt.{texts_of}
+use Rattle.excerpt.specs.Fitting.{stretch, starts}
+use Rattle.changes.specs.Found.{plan_spans}
+use Rattle.excerpt.proofs.text_10.Goals as goal
+
+pub returns : goal.returns
+returns c =
+    let a = c.args in
+    let h = c.requires in
+    starts (texts_of a.w.now a.p).field10 (append-nil (texts_of a.w.now a.p).field10) (omega (arith, h.0.short.field10, h.1)) (stretch a.w.now (plan_spans a.p) 7 2 h.0.inside) c.add_10-r.ensures

@@ -1,0 +1,23 @@
+-- `hearing::settling::hear_answer` meets its contract.
+use borrow.Author.Rules.{rules}
+use mathlib.Core.Path.{sym, ◌∙◌}
+use Prim.Native.Nat.{ℕ}
+use Rattle.hearing.specs.Settles.{found_used, numbered_used, one_waits, none_waits}
+use Rattle.hearing.proofs.settling.hear_answer.Goals as goal
+
+pub settle-requires : goal.settle-requires
+settle-requires c =
+    let i : ℕ = c.in-At.i in
+    let w = found_used c.args.n i c.requires.1 (sym c.find-p.ensures ∙ c.in-At.is) in
+    (c.requires.0, c.requires.1, w.below, numbered_used w)
+
+pub returns-in-At : goal.returns-in-At
+returns-in-At c =
+    let a = c.args in
+    let i : ℕ = c.in-At.i in
+    one_waits a.h a.k a.n i a.sent.now a.unanswered.now _ _ _ (sym c.find-p.ensures ∙ c.in-At.is) c.settle.ensures
+
+pub returns-in-Nowhere : goal.returns-in-Nowhere
+returns-in-Nowhere c =
+    let a = c.args in
+    none_waits a.h a.k a.n a.sent.now a.unanswered.now (sym c.find-p.ensures ∙ c.in-Nowhere.is)

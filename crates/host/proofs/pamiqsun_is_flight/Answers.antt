@@ -1,0 +1,7 @@
+-- `host::pamiqsun_is_flight` meets its contract.
+use borrow.Author.Rules.{rules}
+use Rattle.host.specs.Ways.{checked_by}
+use Rattle.host.proofs.pamiqsun_is_flight.Goals as goal
+
+pub returns : goal.returns
+returns c = checked_by c.is_well_formed.result c.is_well_formed.ensures c.found.ensures

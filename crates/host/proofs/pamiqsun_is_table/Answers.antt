@@ -1,0 +1,7 @@
+-- `host::pamiqsun_is_table` meets its contract.
+use borrow.Author.Rules.{rules}
+use Rattle.host.specs.Ways.{checked_by}
+use Rattle.host.proofs.pamiqsun_is_table.Goals as goal
+
+pub returns : goal.returns
+returns c = checked_by c.is_table.result c.is_table.ensures c.found.ensures

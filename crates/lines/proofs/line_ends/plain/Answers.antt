@@ -1,0 +1,32 @@
+use borrow.Author.Rules.{rules}
+use borrow.Author.Tests.{eqb-true}
+use mathlib.Core.Path.{◌≡◌, refl, sym, ap, ◌∙◌}
+use mathlib.Core.Logic.{⊎_elim}
+use mathlib.Core.Bool.{true}
+use Prim.Native.Nat.{◌≤◌, ◌-◌}
+use native.Mathlib.Omega.{arith}
+use lib.ListN.{length, take}
+use lib.Seq.{take_all}
+use Rattle.lines.specs.Feeds.{feedless}
+use Rattle.lines.proofs.Feeding.{feedless_more}
+use Rattle.lines.proofs.line_ends.plain.Goals as goal
+
+pub loop-i-init : goal.loop-i-init
+unfolding feedless
+loop-i-init c = (omega arith, λ e. refl)
+
+pub loop-i-preserved : goal.loop-i-preserved
+loop-i-preserved c =
+    let l = c.loop-i in
+    let s = c.args.s.now in (
+      omega arith,
+      λ e. ⊎_elim (λ w. absurd (omega (arith, w.1)))
+          (λ w. feedless_more s l.i c.loop-i-test.true w.0.left (l.invariant.1 (sym w.1 ∙ e)))
+          c.if-s-i-eq10.branch,
+    )
+
+pub returns : goal.returns
+returns c =
+    let l = c.loop-i in
+    let s = c.args.s.now in
+    λ e. ap feedless (sym (take_all l.i s c.loop-i-test.false)) ∙ l.invariant.1 (eqb-true l.feeds 0 e)

@@ -1,0 +1,8 @@
+-- `lines::put_refusal` meets its contract. Assumes nothing.
+use borrow.Author.Rules.{rules}
+use native.Mathlib.Omega.{arith}
+use Rattle.splice.specs.Splicing.{then}
+use Rattle.lines.proofs.put_refusal.Goals as goal
+
+pub returns : goal.returns
+returns c = (then c.d-1.ensures.0 c.put_labelled.ensures.spliced (omega arith), omega arith)

@@ -1,0 +1,35 @@
+-- `lines::tell` meets its contract. Assumes nothing.
+use borrow.Author.Rules.{rules}
+use mathlib.Core.Path.{◌≡◌, sym, ap, ◌∙◌}
+use native.Mathlib.Omega.{arith}
+use Rattle.reader.specs.Reader.{verdict}
+use Rattle.message.specs.declared.Verdict.TheVariants.{Read, Refused}
+use Rattle.lines.specs.Listing.{if_read}
+use Rattle.splice.specs.Splicing.{then, same_bytes}
+use Rattle.lines.proofs.Lines.{line_read, line_refused}
+use Rattle.lines.proofs.tell.Goals as goal
+
+pub returns-in-Read : goal.returns-in-Read
+unfolding if_read
+returns-in-Read c =
+    let a = c.args in
+    let e : verdict a.text.now ≡ Read = sym c.put_number-arg-1.ensures ∙ c.put_type-arg-1.given.1 in
+    let both = then c.d-1.ensures.0 c.d-in-Read-1.ensures.0 (omega (arith, (goal.at.returns-in-Read c).After-d-in-Read-1)) in
+    record {
+      wrote = same_bytes (line_read a.k a.text.now e) (then both c.put-next.ensures (omega arith));
+      room = omega arith;
+      told = sym (ap if_read e);
+    }
+
+pub returns-in-Refused : goal.returns-in-Refused
+unfolding if_read
+returns-in-Refused c =
+    let a = c.args in
+    let v = c.in-Refused.given.0 in
+    let e : verdict a.text.now ≡ Refused v.0 v.1.0 = sym c.put_number-arg-1.ensures ∙ c.in-Refused.given.1 in
+    let both = then c.d-1.ensures.0 c.d-in-Refused-1.ensures.0 (omega (arith, (goal.at.returns-in-Refused c).After-d-in-Refused-1)) in
+    record {
+      wrote = same_bytes (line_refused a.k a.text.now v.0 v.1.0 e) (then both c.put-next-in-Refused.ensures (omega arith));
+      room = omega arith;
+      told = sym (ap if_read e);
+    }

@@ -1,0 +1,7 @@
+-- `beginning::clear` meets its contract.
+use borrow.Author.Rules.{rules}
+use Rattle.link.specs.Beginning.{cleared}
+use Rattle.link.proofs.beginning.clear.Goals as goal
+
+pub returns : goal.returns
+returns c = cleared c.args.t.now _ _ c.fill.ensures

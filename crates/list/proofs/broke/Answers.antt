@@ -1,0 +1,24 @@
+-- `list::broke` meets its contract. Assumes nothing.
+use borrow.Author.Rules.{rules}
+use mathlib.Core.Path.{refl, ap, ◌∙◌}
+use mathlib.Core.List.{List, ◌++◌}
+use Prim.Native.Nat.{ℕ}
+use native.Mathlib.Omega.{arith}
+use Rattle.lines.specs.Listing.{broke_off}
+use Rattle.splice.specs.Splicing.{then, front, behind}
+use Rattle.list.proofs.Progressing.{broken_off}
+use Rattle.list.proofs.broke.Goals as goal
+
+pub returns-then-out-lt-ROOM : goal.returns-then-out-lt-ROOM
+returns-then-out-lt-ROOM c = λ line. record { fits = omega arith; rest = refl; none = λ h. refl; ends = λ xs ys a h. absurd (omega arith) }
+
+pub returns : goal.returns
+unfolding broke_off
+returns c =
+    let w = then c.out-1.ensures.0 c.put.ensures (omega arith) in
+    λ line. record {
+      fits = omega arith;
+      rest = behind w (omega arith);
+      none = λ h. absurd (omega arith);
+      ends = λ xs ys a h. ap (λ (s : List ℕ). ys ++ s) (front w (omega arith)) ∙ broken_off xs ys line c.args.tally a;
+    }

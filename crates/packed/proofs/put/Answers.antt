@@ -1,0 +1,9 @@
+-- `packed::put` meets its contract.
+use borrow.Author.Rules.{rules}
+use native.Mathlib.Omega.{arith}
+use Rattle.packed.specs.Laid.{then, named, whole}
+use Rattle.packed.proofs.put.Goals as goal
+
+pub returns : goal.returns
+returns c =
+    whole _ _ _ _ (then (then (named c.out-1.ensures c.slice_known-2-1.ensures) c.out-2-1.ensures (omega arith)) c.put_figures.ensures (omega arith))

@@ -1,0 +1,9 @@
+-- `packed::put_plan_figures` meets its contract.
+use borrow.Author.Rules.{rules}
+use native.Mathlib.Omega.{arith}
+use Rattle.packed.specs.Laid.{then}
+use Rattle.packed.proofs.put_plan_figures.Goals as goal
+
+pub returns : goal.returns
+returns c =
+    then c.out-1.ensures c.put_level.ensures (omega arith)

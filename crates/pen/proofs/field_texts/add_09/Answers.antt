@@ -1,0 +1,17 @@
+-- `pen::field_texts::add_09` meets its contract.
+use borrow.Author.Rules.{rules}
+use mathlib.Core.Path.{sym, ◌∙◌}
+use mathlib.Core.List.{[], ◌∷◌, append-nil}
+use native.Mathlib.Omega.{arith}
+use Rattle.reader.specs.Reading.{cut}
+use Rattle.pen.specs.Laying.{skipped, stands, then, own_part}
+use Rattle.pen.proofs.field_texts.add_09.Goals as goal
+
+pub returns-then-three-eq0 : goal.returns-then-three-eq0
+returns-then-three-eq0 c = let a = c.args in skipped a.d.now a.text.now a.p (a.a ∷ a.b ∷ a.c ∷ []) _ (sym c.three.ensures ∙ c.if-three-eq0.true)
+
+pub returns : goal.returns
+returns c =
+    let a = c.args in
+    stands _ (omega (arith, c.if-three-eq0.ensures, c.add-arg-1.false)) (rw (append-nil (cut a.d.now a.c), own_part a.d.now a.a))
+    (then (c.text-1.ensures a.d.now) (then c.text-2-1.ensures (then c.text-3-1.ensures (then (c.add-p4.ensures a.d.now) c.add_part.ensures))))

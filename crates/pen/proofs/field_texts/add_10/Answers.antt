@@ -1,0 +1,17 @@
+-- `pen::field_texts::add_10` meets its contract.
+use borrow.Author.Rules.{rules}
+use mathlib.Core.Path.{sym, ◌∙◌}
+use mathlib.Core.List.{[], ◌∷◌, append-nil}
+use native.Mathlib.Omega.{arith}
+use Rattle.reader.specs.Reading.{cut}
+use Rattle.pen.specs.Laying.{skipped, stands, then}
+use Rattle.pen.proofs.field_texts.add_10.Goals as goal
+
+pub returns-then-both-eq0 : goal.returns-then-both-eq0
+returns-then-both-eq0 c = let a = c.args in skipped a.d.now a.text.now a.p (a.a ∷ a.b ∷ []) _ (sym c.both.ensures ∙ c.if-both-eq0.true)
+
+pub returns : goal.returns
+returns c =
+    let a = c.args in
+    stands _ (omega (arith, c.if-both-eq0.ensures, c.add-arg-1.false)) (rw (append-nil (cut a.d.now a.b)))
+    (then (c.text-1.ensures a.d.now) (then c.text-2-1.ensures (then (c.add-p3.ensures a.d.now) c.add_part.ensures)))

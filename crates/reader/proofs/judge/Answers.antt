@@ -1,0 +1,21 @@
+use Rattle.types.specs.Messages.{message}
+use Rattle.types.specs.Scanned.{ends}
+use Rattle.message.specs.Record.{blank}
+use Rattle.reader.specs.Reader.{read_verdict, refused_judged, verdict_only, place_within}
+use mathlib.Core.Path.{refl}
+use Rattle.reader.proofs.judge.Goals as goal
+
+pub returns-then-end-place : goal.returns-then-end-place
+returns-then-end-place c =
+    let s = c.args.s.now in
+    read_verdict s _ (ends message s c.scan_any-q.ensures) c.if-end-place.true
+
+pub slice_bounds-hyphens-end : goal.slice_bounds-hyphens-end
+slice_bounds-hyphens-end c =
+    let s = c.args.s.now in
+    place_within s _ (ends message s c.shared_slice_known-1.ensures)
+
+pub returns : goal.returns
+returns c =
+    let s = c.args.s.now in
+    verdict_only s _ blank (refused_judged s _ _ blank (ends message s c.shared_slice_known-1.ensures) c.struct_known-1.false c.hyphens.ensures refl)

@@ -1,0 +1,25 @@
+use mathlib.Core.Path.{◌∙◌}
+use Rattle.types.specs.Messages.{message}
+use Rattle.types.specs.Scanned.{found_by, ends}
+use Rattle.message.specs.Record.{figures_of}
+use Rattle.reader.specs.Reader.{all_found, read_judged, refused_judged, place_within}
+use Rattle.reader.proofs.read.Goals as goal
+
+pub returns-then-end-place : goal.returns-then-end-place
+unfolding found_by
+returns-then-end-place c =
+    let h = c.end-1.ensures in
+    let s = c.args.s.now in
+    let q = all_found s _ h c.decoded-arg-1.true in
+    read_judged s _ _ (ends message s h) c.decoded-arg-1.true
+    (λ i. record { kind = c.kind_in-its.ensures i; parts = (q i).parts; figures = (c.decoded-figures.ensures ∙ (λ j. figures_of s (q j).parts)) i })
+
+pub slice_bounds-hyphens-end : goal.slice_bounds-hyphens-end
+slice_bounds-hyphens-end c =
+    let s = c.args.s.now in
+    place_within s _ (ends message s c.shared_slice_known-1.ensures)
+
+pub returns : goal.returns
+returns c =
+    let s = c.args.s.now in
+    refused_judged s _ _ _ (ends message s c.shared_slice_known-1.ensures) c.struct_known-1.false c.hyphens-before.ensures c.blank.ensures

@@ -1,0 +1,16 @@
+use mathlib.Core.Path.{ap, ◌∙◌, subst, sym}
+use Prim.Native.Nat.{◌+◌, ◌≤◌}
+use lib.ListN.{length}
+use Rattle.scan.specs.Grammar.{place_of, size_of, Span}
+use Rattle.reader.specs.Reading.{cut, route}
+use Rattle.reader.specs.Reader.{route_within, words_of}
+use Rattle.reader.proofs.route.Goals as goal
+
+pub part_of-requires : goal.part_of-requires
+part_of-requires c =
+    subst (λ (p : Span). place_of p + size_of p ≤ length c.args.s.now) (sym c.route_in-p.ensures) (route_within c.args.s.now c.route_in-arg-1.result.verdict c.route_in-arg-1.result.record c.route_in-arg-1.ensures)
+
+pub returns : goal.returns
+returns c =
+    let s = c.args.s.now in
+    words_of route s _ c.route_in-arg-1.result.verdict c.route_in-arg-1.result.record c.route_in-arg-1.ensures (c.part_of.ensures ∙ ap (cut s) c.route_in-p.ensures)

@@ -1,0 +1,7 @@
+-- `response::add_numbers` meets its contract.
+use borrow.Author.Rules.{rules}
+use Rattle.pen.specs.Laying.{then}
+use Rattle.response.proofs.add_numbers.Goals as goal
+
+pub returns : goal.returns
+returns c = then c.add_number-p1.ensures c.add_number.ensures

@@ -1,0 +1,32 @@
+-- `response::lay_answer` meets its contract.
+use borrow.Author.Rules.{rules}
+use native.Mathlib.Omega.{arith}
+use Rattle.excerpt.specs.Fitting.{starts}
+use Rattle.deeds.specs.Message.{message_of}
+use Rattle.response.specs.Answering.{answer_text}
+use Rattle.response.specs.Blocks.{lam_text, rla_text, lrm_text, answer_short, numbers_inside, rla_inside}
+use Rattle.response.proofs.lay_answer.Goals as goal
+
+pub returns-then-v-eq1 : goal.returns-then-v-eq1
+returns-then-v-eq1 c =
+    let w = c.args.w.now in
+    let r = c.args.r in
+    let v = c.args.v in
+    let h = c.requires in
+    starts (answer_text (message_of w r) v) (lam_text w r v c.lay_lam-arg-1.true) (omega (arith, answer_short w r h.0 v, h.1)) (numbers_inside w r h.0) c.lay_lam-p.ensures
+
+pub returns-then-v-eq2 : goal.returns-then-v-eq2
+returns-then-v-eq2 c =
+    let w = c.args.w.now in
+    let r = c.args.r in
+    let v = c.args.v in
+    let h = c.requires in
+    starts (answer_text (message_of w r) v) (rla_text w r v h.0 c.if-v-eq2.false c.lay_rla-arg-1.true) (omega (arith, answer_short w r h.0 v, h.1)) (rla_inside w r h.0) c.lay_rla-p.ensures
+
+pub returns : goal.returns
+returns c =
+    let w = c.args.w.now in
+    let r = c.args.r in
+    let v = c.args.v in
+    let h = c.requires in
+    starts (answer_text (message_of w r) v) (lrm_text w r v c.if-v-eq2.false c.lay_lrm-arg-1.false) (omega (arith, answer_short w r h.0 v, h.1)) (numbers_inside w r h.0) c.lay_lrm-p.ensures

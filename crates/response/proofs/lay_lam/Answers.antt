@@ -1,0 +1,11 @@
+-- `response::lay_lam` meets its contract.
+use borrow.Author.Rules.{rules}
+use Rattle.pen.specs.Laying.{then}
+use Rattle.response.proofs.lay_lam.Goals as goal
+
+pub returns : goal.returns
+returns c =
+    let a = c.args in
+    then (c.text-1.ensures a.w.now)
+    (then c.text-2-1.ensures
+    (c.add.ensures a.w.now))

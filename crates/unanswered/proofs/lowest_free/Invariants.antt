@@ -1,0 +1,17 @@
+-- `unanswered::lowest_free` meets its contract.
+use borrow.Author.Rules.{rules}
+use mathlib.Core.Path.{◌≡◌, sym, ap, ◌∙◌}
+use Prim.Native.Nat.{ℕ, ◌≤◌, ◌-◌}
+use lib.Dec.{eqb}
+use borrow.Author.Tests.{eq-eqb, ne_eqb}
+use Rattle.places.specs.Search.{first_from, from_first, first_here, first_next, first_none}
+use Rattle.unanswered.specs.Waiting.{place}
+use Rattle.unanswered.specs.Formed.{first_at}
+use Rattle.places.specs.Bytes.{free}
+use Rattle.unanswered.proofs.lowest_free.Given as goal
+
+abbrev pub invariant-loop-i : goal.invariant-loop-i
+invariant-loop-i l = (l.i ≤ 16) × (first_from (λ k. free (place k l.t)) 16 0 ≡ first_from (λ k. free (place k l.t)) (16 - l.i) l.i)
+
+abbrev pub decreases-loop-i : goal.decreases-loop-i
+decreases-loop-i l = 16 - l.i

@@ -1,0 +1,10 @@
+-- `writer::comparing::alike` meets its contract.
+use borrow.Author.Rules.{rules}
+use Rattle.scan.specs.Bools.{decides_by}
+use Rattle.writer.specs.Comparing.{lengths_same, records_alike}
+use Rattle.writer.proofs.comparing.alike.Goals as goal
+
+pub returns : goal.returns
+returns c =
+    let a = c.args in
+    decides_by (rw (c.same_lengths.ensures, c.same_figures-arg-1.ensures)) (records_alike a.a a.b _ _ (decides_by c.same_figures-arg-2-1.ensures (lengths_same a.a a.b)) c.same_figures.ensures)
