@@ -6,12 +6,12 @@ use Rattle.compose.proofs.add_rest.Goals as goal
 pub returns : goal.returns
 returns c =
     let a = c.args in
-    then c.text-2-1.ensures
+    then c.add_reference-p1.ensures
+    (then c.add_own-p2.ensures
     (then c.add_changes-p3.ensures
-    (then c.add_led-arg-2-1.ensures
-    (then c.add_led-arg-4-1.ensures
-    (then c.slice_known-6-1.ensures
-    (then c.text-6-1.ensures
+    (then c.add_led-p4.ensures
+    (then c.add_led-p5.ensures
+    (then c.add_led-p6.ensures
     (c.add.ensures a.d.now))))))
 
 pub shape_of-text : goal.shape_of-text

@@ -18,4 +18,4 @@ returns c =
     ap (λ (k : ℕ). take k (drop (place_of a.q) a.w.now)) e
 
 pub returns-then-len-eq0 : goal.returns-then-len-eq0
-returns-then-len-eq0 c = rw c.if1.true
+returns-then-len-eq0 c = rw c.if-len-eq0.true

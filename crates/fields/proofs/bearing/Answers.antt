@@ -14,4 +14,4 @@ pub returns-then-d : goal.returns-then-d
 returns-then-d c = rw (c.digit.ensures, c.in_range-d.ensures, c.byte-c.ensures) (bearing_high _ _ (so _ _ _ c.in_range-a.ensures c.if-a.false) (so _ _ _ (c.in_range-d.ensures ∙ ap (scan (one (Range 48 53)) _) c.byte-c.ensures) c.if-d.true))
 
 pub returns : goal.returns
-returns c = rw (c.lit.ensures, c.in_range-d.ensures) (bearing_360 _ _ (so _ _ _ c.if-a.ensures c.byte-c.false) (so _ _ _ (c.if-d.ensures ∙ ap (scan (one (Range 48 53)) _) c.in_range-d.ensures) c.lit-arg-1.false))
+returns c = rw (c.lit.ensures, c.byte-c.ensures) (bearing_360 _ _ (so _ _ _ c.in_range-a.ensures c.if-a.false) (so _ _ _ (c.in_range-d.ensures ∙ ap (scan (one (Range 48 53)) _) c.byte-c.ensures) c.if-d.false))

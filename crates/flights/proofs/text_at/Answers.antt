@@ -12,7 +12,7 @@ pub returns : goal.returns
 returns c =
     let a = c.args in
     let e : a.at + a.width - a.at ≡ a.width = omega arith in
-    c.s-1.ensures.1 ∙ ap (λ (k : ℕ). trimmed (take k (drop a.at a.b.now))) e
+    c.text_length-n.ensures.1 ∙ ap (λ (k : ℕ). trimmed (take k (drop a.at a.b.now))) e
 
 pub slice_bounds-result-end : goal.slice_bounds-result-end
-slice_bounds-result-end c = sym (length-take-le _ _ c.s-1.ensures.0)
+slice_bounds-result-end c = sym (length-take-le _ _ c.text_length-n.ensures.0)

@@ -10,7 +10,7 @@ returns-then-content-ne246 c = record { sized = λ z. absurd (c.if-content-ne246
 
 pub returns-in-Read : goal.returns-in-Read
 returns-in-Read c =
-    read_into _ _ (omega (arith, c.read-q.false)) c.in-Read.ensures c.put-arg-1.given.1 c.put.ensures
+    read_into _ _ (omega (arith, c.if-content-ne246.false)) c.read-q.ensures c.in-Read.is c.put.ensures
 
 pub returns-in-Refused : goal.returns-in-Refused
 returns-in-Refused c =

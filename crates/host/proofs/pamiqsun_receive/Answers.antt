@@ -10,6 +10,6 @@ returns-then-head-ne12 c = idle c.if-head-ne12.true (refl, refl, refl, refl, ref
 
 pub returns : goal.returns
 returns c =
-    ran c.receive-arg-1.result c.sent-1.result (omega (arith, c.if-head-ne12.false)) c.receive-arg-1.ensures
-    (c.sent-1.ensures, record { number = c.tell-t.ensures.0; size = c.tell-t.ensures.1; place = c.tell-t.ensures.2; hyphens = c.tell-t.ensures.3 })
+    ran c.head_in.result c.receive-o.result (omega (arith, c.if-head-ne12.false)) c.head_in.ensures
+    (c.receive-o.ensures, record { number = c.tell-t.ensures.0; size = c.tell-t.ensures.1; place = c.tell-t.ensures.2; hyphens = c.tell-t.ensures.3 })
     c.put_head.ensures

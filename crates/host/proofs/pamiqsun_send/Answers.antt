@@ -13,6 +13,6 @@ returns-then-content-ne246 c = idle (λ z. c.if-content-ne246.true z.1) (refl, r
 
 pub returns : goal.returns
 returns c =
-    ran c.take.result c.received-1.result (omega (arith, c.if-head-ne12.false), omega (arith, c.if-content-ne246.false)) c.take.ensures
-    (sent_as c.send-arg-1.ensures c.received-1.ensures, c.tell-t.ensures.0, c.tell-t.ensures.1)
+    ran c.head_in.result c.send-o.result (omega (arith, c.if-head-ne12.false), omega (arith, c.if-content-ne246.false)) c.head_in.ensures
+    (sent_as c.take.ensures c.send-o.ensures, c.tell-t.ensures.0, c.tell-t.ensures.1)
     c.put_head.ensures

@@ -10,4 +10,4 @@ returns-then-head-ne12 c = idle c.if-head-ne12.true refl
 
 pub returns : goal.returns
 returns c =
-    ran c.set_up-arg-1.result c.sent-1.result (omega (arith, c.if-head-ne12.false)) c.set_up-arg-1.ensures (c.sent-1.ensures, c.tell-t.ensures.0) c.put_head.ensures
+    ran c.head_in.result c.set_up-o.result (omega (arith, c.if-head-ne12.false)) c.head_in.ensures (c.set_up-o.ensures, c.tell-t.ensures.0) c.put_head.ensures

@@ -57,12 +57,12 @@ slice_bounds-put-end c = simp length_set (omega arith)
 
 -- what is handed to put is the number in decimal
 spelt : (c : After-put-arg-2-1)
-    → take (20 - (c.slice_known-1.i - 1)) (drop (c.slice_known-1.i - 1) (set c.slice_known-1.digits (c.slice_known-1.i - 1) c.loop-rest-test.result))
+    → take (20 - (c.loop-rest.i - 1)) (drop (c.loop-rest.i - 1) (set c.loop-rest.digits (c.loop-rest.i - 1) c.digit-2.result))
     ≡ decimal c.args.n
 spelt c =
-    let l = c.slice_known-1 in
+    let l = c.loop-rest in
     let a = c.args in
-    digits_last a.n l.rest l.i c.loop-rest-test.result l.digits (omega arith) l.invariant.0 (omega arith) l.invariant.2 c.loop-rest-test.ensures l.invariant.4
+    digits_last a.n l.rest l.i c.digit-2.result l.digits (omega arith) l.invariant.0 (omega arith) l.invariant.2 c.digit-2.ensures l.invariant.4
 
 pub put-requires : goal.put-requires
 put-requires c =

@@ -11,6 +11,6 @@ pub returns : goal.returns
 returns c =
     let t = c.args.text.now in
     let short = length-take 3 (drop 1 t) in
-    let word = same_bytes (three t c.least-end.result c.put-arg-1.result c.least-end.ensures.2 c.put-arg-1.ensures.2) c.put.ensures in
+    let word = same_bytes (three t c.least-start.result c.least-end.result c.least-start.ensures.2 c.least-end.ensures.2) c.put.ensures in
     let bound : c.put.result ≤ c.args.at + 4 = omega (arith, word.place, short) in
     (then c.put-blank.ensures word (omega arith), bound)

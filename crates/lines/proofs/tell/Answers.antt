@@ -13,8 +13,8 @@ pub returns-in-Read : goal.returns-in-Read
 unfolding if_read
 returns-in-Read c =
     let a = c.args in
-    let e : verdict a.text.now ≡ Read = sym c.put_number-arg-1.ensures ∙ c.put_type-arg-1.given.1 in
-    let both = then c.d-1.ensures.0 c.d-in-Read-1.ensures.0 (omega (arith, (goal.at.returns-in-Read c).After-d-in-Read-1)) in
+    let e : verdict a.text.now ≡ Read = sym c.judge-verdict.ensures ∙ c.in-Read.is in
+    let both = then c.put_number-number.ensures.spliced c.put_type-word.ensures.spliced (omega (arith, (goal.at.returns-in-Read c).After-d-in-Read-1)) in
     record {
       wrote = same_bytes (line_read a.k a.text.now e) (then both c.put-next.ensures (omega arith));
       room = omega arith;
@@ -25,9 +25,9 @@ pub returns-in-Refused : goal.returns-in-Refused
 unfolding if_read
 returns-in-Refused c =
     let a = c.args in
-    let v = c.in-Refused.given.0 in
-    let e : verdict a.text.now ≡ Refused v.0 v.1.0 = sym c.put_number-arg-1.ensures ∙ c.in-Refused.given.1 in
-    let both = then c.d-1.ensures.0 c.d-in-Refused-1.ensures.0 (omega (arith, (goal.at.returns-in-Refused c).After-d-in-Refused-1)) in
+    let v = c.verdict-1.given.0 in
+    let e : verdict a.text.now ≡ Refused v.0 v.1.0 = sym c.judge-verdict.ensures ∙ c.in-Refused.is in
+    let both = then c.put_number-number.ensures.spliced c.put_refusal-word.ensures.spliced (omega (arith, (goal.at.returns-in-Refused c).After-d-in-Refused-1)) in
     record {
       wrote = same_bytes (line_refused a.k a.text.now v.0 v.1.0 e) (then both c.put-next-in-Refused.ensures (omega arith));
       room = omega arith;

@@ -15,7 +15,7 @@ returns-then-out-lt-ROOM c = λ line. record { fits = omega arith; rest = refl; 
 pub returns : goal.returns
 unfolding broke_off
 returns c =
-    let w = then c.out-1.ensures.0 c.put.ensures (omega arith) in
+    let w = then c.put_labelled-a.ensures.spliced c.put.ensures (omega arith) in
     λ line. record {
       fits = omega arith;
       rest = behind w (omega arith);

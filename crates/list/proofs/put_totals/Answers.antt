@@ -10,8 +10,8 @@ unfolding totals
 returns c = (
   then
       (then
-      (then c.put_labelled-arg-4-1.ensures.0 c.slice_known-3-1.ensures.0 (omega (arith, (goal.at.returns c).After-slice_known-3-1)))
-      c.d-3-1.ensures.0
+      (then c.put_labelled-a.ensures.spliced c.put_labelled-b.ensures.spliced (omega (arith, (goal.at.returns c).After-slice_known-3-1)))
+      c.put_labelled-c.ensures.spliced
       (omega (arith, (goal.at.returns c).After-d-3-1)))
       c.put.ensures
       (omega arith),

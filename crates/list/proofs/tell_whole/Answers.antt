@@ -16,9 +16,9 @@ slice_bounds-tell-end c =
     omega (arith, c.hold-n.ensures.size, length-take 1078 (take a.held a.line.now ++ a.part.now))
 
 pub slice_bounds-tell-end-2 : goal.slice_bounds-tell-end-2
-slice_bounds-tell-end-2 c = c.hold-arg-1.ensures.size ∙ ap length (sym c.hold-arg-1.ensures.bytes)
+slice_bounds-tell-end-2 c = c.hold-n.ensures.size ∙ ap length (sym c.hold-n.ensures.bytes)
 
 pub returns : goal.returns
 returns c =
     let a = c.args in
-    tells_kept a.k (take c.hold-arg-1.result c.hold-arg-1.new.0) (take a.held a.line.now ++ a.part.now) c.hold-arg-1.ensures.bytes c.tell-2.ensures
+    tells_kept a.k (take c.hold-n.result c.hold-n.new.line) (take a.held a.line.now ++ a.part.now) c.hold-n.ensures.bytes c.tell-2.ensures

@@ -6,4 +6,4 @@ use Rattle.packed.proofs.put.Goals as goal
 
 pub returns : goal.returns
 returns c =
-    whole _ _ _ _ (then (then (named c.out-1.ensures c.slice_known-2-1.ensures) c.out-2-1.ensures (omega arith)) c.put_figures.ensures (omega arith))
+    whole _ _ _ _ (then (then (named c.kind_number.ensures c.put_one-a.ensures) c.put_parts-b.ensures (omega arith)) c.put_figures.ensures (omega arith))

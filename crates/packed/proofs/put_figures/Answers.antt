@@ -6,4 +6,4 @@ use Rattle.packed.proofs.put_figures.Goals as goal
 
 pub returns : goal.returns
 returns c =
-    then (then (then (then (then (then (then c.put_one-b.ensures c.put_plan_figures-arg-2-1.ensures (omega arith)) c.put_one-arg-3-1.ensures (omega arith)) (named c.slice_known-5-1.ensures c.put_level-arg-1.ensures) (omega arith)) c.slice_known-6-1.ensures (omega arith)) c.out-6-1.ensures (omega arith)) c.put_plan_figures-h.ensures (omega arith)) c.put_one.ensures (omega arith)
+    then (then (then (then (then (then (then c.put_one-a.ensures c.put_one-b.ensures (omega arith)) c.put_plan_figures-c.ensures (omega arith)) (named c.form_number.ensures c.put_one-d.ensures) (omega arith)) c.put_level-e.ensures (omega arith)) c.put_level-g.ensures (omega arith)) c.put_plan_figures-h.ensures (omega arith)) c.put_one.ensures (omega arith)

@@ -6,4 +6,4 @@ use Rattle.packed.proofs.put_plan_figures.Goals as goal
 
 pub returns : goal.returns
 returns c =
-    then c.out-1.ensures c.put_level.ensures (omega arith)
+    then c.put_one-a.ensures c.put_level.ensures (omega arith)

@@ -58,13 +58,13 @@ pub returns-in-Amends : goal.returns-in-Amends
 returns-in-Amends c =
     let a = c.args in
     let h = c.requires in
-    amended_written a.i (message_of a.w.now a.r) a.table.now _ a.d h.1 h.2 h.3 c.amend-arg-1.given.1 c.amend.ensures
+    amended_written a.i (message_of a.w.now a.r) a.table.now _ a.d h.1 h.2 h.3 c.in-Amends.is c.amend.ensures
 
 pub returns-in-Estimates : goal.returns-in-Estimates
 returns-in-Estimates c =
     let a = c.args in
     let h = c.requires in
-    estimated_written a.i (message_of a.w.now a.r) a.table.now _ a.d h.1 h.2 h.3 c.estimate-arg-1.given.1 c.estimate.ensures
+    estimated_written a.i (message_of a.w.now a.r) a.table.now _ a.d h.1 h.2 h.3 c.in-Estimates.is c.estimate.ensures
 
 pub returns-in-Cancels : goal.returns-in-Cancels
 returns-in-Cancels c =

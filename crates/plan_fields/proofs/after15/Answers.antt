@@ -25,4 +25,4 @@ pub routed-requires-2 : goal.routed-requires-2
 routed-requires-2 c = forth (lit (86 ∷ 70 ∷ 82 ∷ [])) _ _ _ c.lit.ensures
 
 pub returns : goal.returns
-returns c = rw (c.routed-2.ensures, c.lit.ensures) (after_vfr _ _ _ (search rules) (so _ _ _ c.if-a.ensures c.one_of-b.false) (so _ _ _ c.if-b.ensures c.lit-arg-1.false))
+returns c = rw (c.routed-2.ensures, c.lit.ensures) (after_vfr _ _ _ (search rules) (so _ _ _ c.one_of-a.ensures c.if-a.false) (so _ _ _ c.one_of-b.ensures c.if-b.false))

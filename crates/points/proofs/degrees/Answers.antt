@@ -9,8 +9,8 @@ use Rattle.points.proofs.degrees.Goals as goal
 
 pub returns-then-not-c : goal.returns-then-not-c
 unfolding degrees
-returns-then-not-c c = let e : c.longer-c.result ≡ scan north_degrees c.args.s.now c.args.r = rw (c.longer-c.ensures, c.lit.ensures, c.lit-arg-1.ensures, c.digit-b.ensures) in e ∙ no_degrees _ _ (so _ _ _ e (not-true _ c.if-not-c.true))
+returns-then-not-c c = let e : c.longer-c.result ≡ scan north_degrees c.args.s.now c.args.r = rw (c.longer-c.ensures, c.lit.ensures, c.digit-b.ensures, c.in_range-a.ensures) in e ∙ no_degrees _ _ (so _ _ _ e (not-true _ c.if-not-c.true))
 
 pub returns : goal.returns
 unfolding degrees
-returns c = rw (c.one_of.ensures, c.longer-k.ensures, c.longer-j.ensures, c.lit-2.ensures, c.lit-arg-3-1.ensures, c.digit-i.ensures, c.in_range-h.ensures, c.byte-g.ensures, c.digits-f.ensures, c.byte-e.ensures, c.struct_known-1.ensures, c.longer-c.ensures, c.lit-arg-2-1.ensures, c.lit-arg-1.ensures)
+returns c = rw (c.one_of.ensures, c.longer-k.ensures, c.longer-j.ensures, c.lit-2.ensures, c.digit-i.ensures, c.in_range-h.ensures, c.byte-g.ensures, c.digits-f.ensures, c.byte-e.ensures, c.one_of-d.ensures, c.longer-c.ensures, c.lit.ensures, c.digit-b.ensures, c.in_range-a.ensures)

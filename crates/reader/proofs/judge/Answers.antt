@@ -13,9 +13,9 @@ returns-then-end-place c =
 pub slice_bounds-hyphens-end : goal.slice_bounds-hyphens-end
 slice_bounds-hyphens-end c =
     let s = c.args.s.now in
-    place_within s _ (ends message s c.shared_slice_known-1.ensures)
+    place_within s _ (ends message s c.scan_any-q.ensures)
 
 pub returns : goal.returns
 returns c =
     let s = c.args.s.now in
-    verdict_only s _ blank (refused_judged s _ _ blank (ends message s c.shared_slice_known-1.ensures) c.struct_known-1.false c.hyphens.ensures refl)
+    verdict_only s _ blank (refused_judged s _ _ blank (ends message s c.scan_any-q.ensures) c.if-end-place.false c.hyphens.ensures refl)

@@ -8,18 +8,18 @@ use Rattle.reader.proofs.read.Goals as goal
 pub returns-then-end-place : goal.returns-then-end-place
 unfolding found_by
 returns-then-end-place c =
-    let h = c.end-1.ensures in
+    let h = c.scan_any-q.ensures in
     let s = c.args.s.now in
-    let q = all_found s _ h c.decoded-arg-1.true in
-    read_judged s _ _ (ends message s h) c.decoded-arg-1.true
+    let q = all_found s _ h c.if-end-place.true in
+    read_judged s _ _ (ends message s h) c.if-end-place.true
     (λ i. record { kind = c.kind_in-its.ensures i; parts = (q i).parts; figures = (c.decoded-figures.ensures ∙ (λ j. figures_of s (q j).parts)) i })
 
 pub slice_bounds-hyphens-end : goal.slice_bounds-hyphens-end
 slice_bounds-hyphens-end c =
     let s = c.args.s.now in
-    place_within s _ (ends message s c.shared_slice_known-1.ensures)
+    place_within s _ (ends message s c.scan_any-q.ensures)
 
 pub returns : goal.returns
 returns c =
     let s = c.args.s.now in
-    refused_judged s _ _ _ (ends message s c.shared_slice_known-1.ensures) c.struct_known-1.false c.hyphens-before.ensures c.blank.ensures
+    refused_judged s _ _ _ (ends message s c.scan_any-q.ensures) c.if-end-place.false c.hyphens-before.ensures c.blank.ensures

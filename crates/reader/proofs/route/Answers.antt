@@ -8,9 +8,9 @@ use Rattle.reader.proofs.route.Goals as goal
 
 pub part_of-requires : goal.part_of-requires
 part_of-requires c =
-    subst (λ (p : Span). place_of p + size_of p ≤ length c.args.s.now) (sym c.route_in-p.ensures) (route_within c.args.s.now c.route_in-arg-1.result.verdict c.route_in-arg-1.result.record c.route_in-arg-1.ensures)
+    subst (λ (p : Span). place_of p + size_of p ≤ length c.args.s.now) (sym c.route_in-p.ensures) (route_within c.args.s.now c.read-q.result.verdict c.read-q.result.record c.read-q.ensures)
 
 pub returns : goal.returns
 returns c =
     let s = c.args.s.now in
-    words_of route s _ c.route_in-arg-1.result.verdict c.route_in-arg-1.result.record c.route_in-arg-1.ensures (c.part_of.ensures ∙ ap (cut s) c.route_in-p.ensures)
+    words_of route s _ c.read-q.result.verdict c.read-q.result.record c.read-q.ensures (c.part_of.ensures ∙ ap (cut s) c.route_in-p.ensures)

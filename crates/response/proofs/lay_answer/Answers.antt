@@ -13,7 +13,7 @@ returns-then-v-eq1 c =
     let r = c.args.r in
     let v = c.args.v in
     let h = c.requires in
-    starts (answer_text (message_of w r) v) (lam_text w r v c.lay_lam-arg-1.true) (omega (arith, answer_short w r h.0 v, h.1)) (numbers_inside w r h.0) c.lay_lam-p.ensures
+    starts (answer_text (message_of w r) v) (lam_text w r v c.if-v-eq1.true) (omega (arith, answer_short w r h.0 v, h.1)) (numbers_inside w r h.0) c.lay_lam-p.ensures
 
 pub returns-then-v-eq2 : goal.returns-then-v-eq2
 returns-then-v-eq2 c =
@@ -21,7 +21,7 @@ returns-then-v-eq2 c =
     let r = c.args.r in
     let v = c.args.v in
     let h = c.requires in
-    starts (answer_text (message_of w r) v) (rla_text w r v h.0 c.if-v-eq2.false c.lay_rla-arg-1.true) (omega (arith, answer_short w r h.0 v, h.1)) (rla_inside w r h.0) c.lay_rla-p.ensures
+    starts (answer_text (message_of w r) v) (rla_text w r v h.0 c.if-v-eq1.false c.if-v-eq2.true) (omega (arith, answer_short w r h.0 v, h.1)) (rla_inside w r h.0) c.lay_rla-p.ensures
 
 pub returns : goal.returns
 returns c =
@@ -29,4 +29,4 @@ returns c =
     let r = c.args.r in
     let v = c.args.v in
     let h = c.requires in
-    starts (answer_text (message_of w r) v) (lrm_text w r v c.if-v-eq2.false c.lay_lrm-arg-1.false) (omega (arith, answer_short w r h.0 v, h.1)) (numbers_inside w r h.0) c.lay_lrm-p.ensures
+    starts (answer_text (message_of w r) v) (lrm_text w r v c.if-v-eq1.false c.if-v-eq2.false) (omega (arith, answer_short w r h.0 v, h.1)) (numbers_inside w r h.0) c.lay_lrm-p.ensures

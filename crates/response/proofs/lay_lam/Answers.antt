@@ -6,6 +6,6 @@ use Rattle.response.proofs.lay_lam.Goals as goal
 pub returns : goal.returns
 returns c =
     let a = c.args in
-    then (c.text-1.ensures a.w.now)
-    (then c.text-2-1.ensures
+    then (c.open_text-p.ensures a.w.now)
+    (then c.add_numbers-p1.ensures
     (c.add.ensures a.w.now))

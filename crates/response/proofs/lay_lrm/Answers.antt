@@ -6,8 +6,8 @@ use Rattle.response.proofs.lay_lrm.Goals as goal
 pub returns : goal.returns
 returns c =
     let a = c.args in
-    then (c.slice_known-2-1.ensures a.w.now)
-    (then c.slice_known-3-1.ensures
-    (then (c.text-3-1.ensures a.w.now)
-    (then (c.text-4-1.ensures a.w.now)
+    then (c.open_text-p.ensures a.w.now)
+    (then c.add_numbers-p1.ensures
+    (then (c.add-p2.ensures a.w.now)
+    (then (c.add-p3.ensures a.w.now)
     (c.add.ensures a.w.now))))

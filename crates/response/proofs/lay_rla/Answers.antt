@@ -6,7 +6,7 @@ use Rattle.response.proofs.lay_rla.Goals as goal
 pub returns : goal.returns
 returns c =
     let a = c.args in
-    then (c.slice_known-2-1.ensures a.w.now)
-    (then c.slice_known-3-1.ensures
-    (then c.text-3-1.ensures
+    then (c.open_text-p.ensures a.w.now)
+    (then c.add_numbers-p1.ensures
+    (then c.add_led-p2.ensures
     (c.add.ensures a.w.now)))

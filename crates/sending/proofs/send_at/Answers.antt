@@ -26,7 +26,7 @@ pub returns-then-not-holds : goal.returns-then-not-holds
 returns-then-not-holds c =
     let a = c.args in
     let m = message_of a.w.now a.r in
-    sends_failing a.i m a.h a.w.now a.sent.now a.received.now a.unanswered.now a.out.now (sym c.slice_known-3-1.ensures ∙ c.too_far_back.false) (sym c.requires.6.named ∙ c.if-too_far_back.false) (ap holds (sym c.decide-c.ensures) ∙ sym c.holds.ensures ∙ not-true _ c.if-not-holds.true-raw)
+    sends_failing a.i m a.h a.w.now a.sent.now a.received.now a.unanswered.now a.out.now (sym c.too_far_back.ensures ∙ c.if-too_far_back.false) (sym c.requires.6.named ∙ c.if-x.false) (ap holds (sym c.decide-c.ensures) ∙ sym c.holds.ensures ∙ not-true _ c.if-not-holds.true-raw)
 
 pub is_filled-requires : goal.is_filled-requires
 is_filled-requires c =
@@ -37,13 +37,13 @@ pub returns-then-is_filled : goal.returns-then-is_filled
 returns-then-is_filled c =
     let a = c.args in
     let m = message_of a.w.now a.r in
-    sends_full a.i m a.h a.w.now a.sent.now a.received.now a.unanswered.now a.out.now (sym c.slice_known-3-1.ensures ∙ c.too_far_back.false) (sym c.requires.6.named ∙ c.if-too_far_back.false) (ap holds (sym c.decide-c.ensures) ∙ sym c.holds.ensures ∙ not-false _ c.if-not-holds.false-raw) (ap (table_filled m a.sent.now) (sym c.requires.6.makers) ∙ sym c.is_filled.ensures ∙ c.if-is_filled.true)
+    sends_full a.i m a.h a.w.now a.sent.now a.received.now a.unanswered.now a.out.now (sym c.too_far_back.ensures ∙ c.if-too_far_back.false) (sym c.requires.6.named ∙ c.if-x.false) (ap holds (sym c.decide-c.ensures) ∙ sym c.holds.ensures ∙ not-false _ c.if-not-holds.false-raw) (ap (table_filled m a.sent.now) (sym c.requires.6.makers) ∙ sym c.is_filled.ensures ∙ c.if-is_filled.true)
 
 pub returns-then-out-w : goal.returns-then-out-w
 returns-then-out-w c =
     let a = c.args in
     let m = message_of a.w.now a.r in
-    sends_no_room a.i m a.h a.w.now a.sent.now a.received.now a.unanswered.now a.out.now (sym c.slice_known-3-1.ensures ∙ c.too_far_back.false) (sym c.requires.6.named ∙ c.if-too_far_back.false) (ap holds (sym c.decide-c.ensures) ∙ sym c.holds.ensures ∙ not-false _ c.if-not-holds.false-raw) (ap (table_filled m a.sent.now) (sym c.requires.6.makers) ∙ sym c.is_filled.ensures ∙ c.if-is_filled.false) c.if-out-w.true
+    sends_no_room a.i m a.h a.w.now a.sent.now a.received.now a.unanswered.now a.out.now (sym c.too_far_back.ensures ∙ c.if-too_far_back.false) (sym c.requires.6.named ∙ c.if-x.false) (ap holds (sym c.decide-c.ensures) ∙ sym c.holds.ensures ∙ not-false _ c.if-not-holds.false-raw) (ap (table_filled m a.sent.now) (sym c.requires.6.makers) ∙ sym c.is_filled.ensures ∙ c.if-is_filled.false) c.if-out-w.true
 
 pub hand_over-requires : goal.hand_over-requires
 hand_over-requires c =
@@ -56,4 +56,4 @@ pub returns : goal.returns
 returns c =
     let a = c.args in
     let m = message_of a.w.now a.r in
-    sends a.i m a.h a.w.now a.sent.now a.received.now a.unanswered.now a.out.now (sym c.slice_known-3-1.ensures ∙ c.too_far_back.false) (sym c.requires.6.named ∙ c.if-too_far_back.false) (ap holds (sym c.decide-c.ensures) ∙ sym c.holds.ensures ∙ not-false _ c.if-not-holds.false-raw) (ap (table_filled m a.sent.now) (sym c.requires.6.makers) ∙ sym c.is_filled.ensures ∙ c.if-is_filled.false) _ _ _ _ c.requires.3 c.if-out-w.false c.hand_over.ensures
+    sends a.i m a.h a.w.now a.sent.now a.received.now a.unanswered.now a.out.now (sym c.too_far_back.ensures ∙ c.if-too_far_back.false) (sym c.requires.6.named ∙ c.if-x.false) (ap holds (sym c.decide-c.ensures) ∙ sym c.holds.ensures ∙ not-false _ c.if-not-holds.false-raw) (ap (table_filled m a.sent.now) (sym c.requires.6.makers) ∙ sym c.is_filled.ensures ∙ c.if-is_filled.false) _ _ _ _ c.requires.3 c.if-out-w.false c.hand_over.ensures

@@ -14,13 +14,13 @@ returns-then-not-x c =
     λ A f. unanswered_broken a.h a.w.now a.sent.now a.received.now a.unanswered.now a.out.now A (λ u. false≢true (sym (not-true _ c.if-not-x.true) ∙ c.survey-x.ensures.formed.no u))
 
 pub lowest_free-p-requires : goal.lowest_free-p-requires
-lowest_free-p-requires c = (c.partners-2-1.ensures.formed.yes (not-false _ c.struct_known-1.false)).whole
+lowest_free-p-requires c = (c.survey-x.ensures.formed.yes (not-false _ c.if-not-x.false)).whole
 
 pub send_at-requires : goal.send_at-requires
 send_at-requires c =
-    let v = c.partners-2-1 in
+    let v = c.survey-x in
     let h = c.requires in
-    let y = not-false _ c.struct_known-1.false in
+    let y = not-false _ c.if-not-x.false in
     (place_below c.args.unanswered.now _ c.in-At.i c.lowest_free-p.ensures c.in-At.is, h.0, h.1, h.2, h.3, v.ensures.formed.yes y, v.ensures.counted y)
 
 pub returns-in-At : goal.returns-in-At
@@ -28,7 +28,7 @@ returns-in-At c =
     let a = c.args in
     let h = c.requires in
     let i : ℕ = c.in-At.i in
-    let u = c.partners-2-1.ensures.formed.yes (not-false _ c.struct_known-1.false) in
+    let u = c.survey-x.ensures.formed.yes (not-false _ c.if-not-x.false) in
     λ A f.
     unanswered_formed a.h a.w.now a.sent.now a.received.now a.unanswered.now a.out.now A _ _ _ _ (record { head = h.1; sent = h.2; received = h.3; answers = f }) u
     (sends_text a.h a.w.now a.r a.sent.now a.received.now a.unanswered.now a.out.now h.0 _ c.lowest_free-p.ensures (At i) _ _ _ _ c.in-At.is c.send_at.ensures A)
@@ -37,7 +37,7 @@ pub returns-in-Nowhere : goal.returns-in-Nowhere
 returns-in-Nowhere c =
     let a = c.args in
     let h = c.requires in
-    let u = c.partners-2-1.ensures.formed.yes (not-false _ c.struct_known-1.false) in
+    let u = c.survey-x.ensures.formed.yes (not-false _ c.if-not-x.false) in
     λ A f.
     unanswered_formed a.h a.w.now a.sent.now a.received.now a.unanswered.now a.out.now A _ _ _ _ (record { head = h.1; sent = h.2; received = h.3; answers = f }) u
     (sends_nowhere a.h a.w.now a.r a.sent.now a.received.now a.unanswered.now a.out.now h.0 _ c.lowest_free-p.ensures c.in-Nowhere.is A)

@@ -26,23 +26,23 @@ pub returns : goal.returns
 unfolding found_by opened_by chg found_tail among occurs span_by
 returns c =
     let s = c.args.s.now in
-    let p0 = c.e-1.ensures in
-    let p1 = c.alnums-e2.ensures ∙ (λ i. scan (byte 45) s (p0 i).end) in
-    let p2 = c.byte.ensures ∙ (λ i. scan (run Alnum 2 7) s (p1 i)) in
-    let p3 = c.field13o-d.ensures ∙ (λ i. scan (byte 45) s (p2 i)) in
-    let p4 = c.e3-1.ensures ∙ (λ i. found13o s (p3 i)) in
-    let p5 = c.letters-e5.ensures ∙ (λ i. scan (byte 45) s (p4 i).end) in
-    let p6 = c.struct_known-1.ensures ∙ (λ i. scan (run Letter 4 4) s (p5 i)) in
-    let p7 = c.changed-c.ensures ∙ (λ i. scan (byte 45) s (p6 i)) in
-    let p8 = c.e6-1.ensures ∙ (λ i. found_tail changed s (p7 i)) in
-    let p9 = c.struct_known-2-1.ensures ∙ (λ i. scan (byte 41) s (p8 i).end) in
-    let p10 = c.between-destination.ensures ∙ (λ i. between16 (p1 i) (p2 i)) in
-    let p11 = c.none-n.ensures ∙ (λ i. between16 (p5 i) (p6 i)) in
-    let p12 = c.named-plan.ensures in
-    let p13 = c.no_estimate.ensures ∙ (λ i. named_by (p10 i) (p12 i) (p4 i).departure (p4 i).time (p11 i) (p8 i).indicator (p8 i).other) in
-    let p14 = c.whole-arg-1.ensures in
+    let p0 = c.referring-h.ensures in
+    let p1 = c.byte-e1.ensures ∙ (λ i. scan (byte 45) s (p0 i).end) in
+    let p2 = c.alnums-e2.ensures ∙ (λ i. scan (run Alnum 2 7) s (p1 i)) in
+    let p3 = c.byte.ensures ∙ (λ i. scan (byte 45) s (p2 i)) in
+    let p4 = c.field13o-d.ensures ∙ (λ i. found13o s (p3 i)) in
+    let p5 = c.byte-e4.ensures ∙ (λ i. scan (byte 45) s (p4 i).end) in
+    let p6 = c.letters-e5.ensures ∙ (λ i. scan (run Letter 4 4) s (p5 i)) in
+    let p7 = c.byte-2.ensures ∙ (λ i. scan (byte 45) s (p6 i)) in
+    let p8 = c.changed-c.ensures ∙ (λ i. found_tail changed s (p7 i)) in
+    let p9 = c.byte-end.ensures ∙ (λ i. scan (byte 41) s (p8 i).end) in
+    let p10 = c.between-aircraft.ensures ∙ (λ i. between16 (p1 i) (p2 i)) in
+    let p11 = c.between-destination.ensures ∙ (λ i. between16 (p5 i) (p6 i)) in
+    let p12 = c.none-n.ensures in
+    let p13 = c.named-plan.ensures ∙ (λ i. named_by (p10 i) (p12 i) (p4 i).departure (p4 i).time (p11 i) (p8 i).indicator (p8 i).other) in
+    let p14 = c.no_estimate.ensures in
     let p15 = c.whole.ensures ∙ (λ i. whole_by (p9 i) (p0 i) (p13 i) (p14 i) (p8 i).plan (p12 i) (p12 i) (p12 i)) in
-    tells chg s _ p9 c.between-aircraft.false p15
+    tells chg s _ p9 c.if-not-end.false p15
 
 pub between-aircraft-requires : goal.between-aircraft-requires
 between-aircraft-requires c = forth (run Alnum 2 7) _ _ _ c.alnums-e2.ensures

@@ -14,14 +14,14 @@ use Rattle.types.proofs.lrm.Goals as goal
 pub returns-then-not-end : goal.returns-then-not-end
 unfolding opened_by lrm
 returns-then-not-end c =
-    stops it c.args.s.now c.byte-end.result (rw (c.byte-end.ensures, c.digits-e3.ensures, c.lit-e2.ensures, c.lit-arg-1.ensures, c.e-1.ensures)) c.if-not-end.true c.stopped.ensures
+    stops it c.args.s.now c.byte-end.result (rw (c.byte-end.ensures, c.digits-e3.ensures, c.lit-e2.ensures, c.byte-e1.ensures, c.referring-h.ensures)) c.if-not-end.true c.stopped.ensures
 
 pub returns : goal.returns
 unfolding found_by opened_by lrm among occurs span_by
 returns c =
     let s = c.args.s.now in
-    let p0 = c.e-1.ensures in
-    let p1 = c.lit-arg-1.ensures ∙ (λ i. scan (byte 45) s (p0 i).end) in
+    let p0 = c.referring-h.ensures in
+    let p1 = c.byte-e1.ensures ∙ (λ i. scan (byte 45) s (p0 i).end) in
     let p2 = c.lit-e2.ensures ∙ (λ i. scan (lit (82 ∷ 77 ∷ 75 ∷ 47 ∷ [])) s (p1 i)) in
     let p3 = c.digits-e3.ensures ∙ (λ i. scan (run Digit 2 2) s (p2 i)) in
     let p4 = c.byte-end.ensures ∙ (λ i. scan (byte 41) s (p3 i)) in

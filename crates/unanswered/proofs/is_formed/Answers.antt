@@ -21,8 +21,8 @@ text-requires c = let h = c.requires in (h.0, h.1, (shown_as (goal.at.text-requi
 pub is_proper-requires : goal.is_proper-requires
 is_proper-requires c =
     let h = c.requires in
-    let q = c.is_proper-arg-1 in
-    (h.0, h.1, (shown_as (goal.at.is_proper-requires c).In-Message-1 Message c.text.given.1).0.1, (q.result.verdict, subst (λ (x : List ℕ). Judged x q.result.verdict q.result.record) c.read-q.ensures q.ensures))
+    let q = c.read-q in
+    (h.0, h.1, (shown_as (goal.at.is_proper-requires c).In-Message-1 Message c.in-Message.is).0.1, (q.result.verdict, subst (λ (x : List ℕ). Judged x q.result.verdict q.result.record) c.text.ensures q.ensures))
 
 pub returns-in-Broken : goal.returns-in-Broken
 returns-in-Broken c = let a = c.args in broken_at a.ours.now a.partners.now a.t.now a.i (shown_as (goal.at.returns-in-Broken c).After-look-l Broken c.in-Broken.is)
@@ -31,4 +31,4 @@ pub returns-in-Empty : goal.returns-in-Empty
 returns-in-Empty c = let a = c.args in empty_at a.ours.now a.partners.now a.t.now a.i (shown_as (goal.at.returns-in-Empty c).After-look-l Empty c.in-Empty.is)
 
 pub returns-in-Message : goal.returns-in-Message
-returns-in-Message c = let a = c.args in proper_at a.ours.now a.partners.now a.t.now a.i (shown_as (goal.at.returns-in-Message c).In-Message-1 Message c.text.given.1) _ c.is_proper.ensures
+returns-in-Message c = let a = c.args in proper_at a.ours.now a.partners.now a.t.now a.i (shown_as (goal.at.returns-in-Message c).In-Message-1 Message c.in-Message.is) _ c.is_proper.ensures

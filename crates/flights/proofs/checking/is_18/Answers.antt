@@ -7,4 +7,4 @@ use Rattle.scan.specs.Theory.{told_by}
 use Rattle.flights.proofs.checking.is_18.Goals as goal
 
 pub returns : goal.returns
-returns c = let a = c.args in told_by (in18 0) good_18 a.t.now _ _ (ap (λ (x : Found18). x.end) c.whole-arg-1.ensures) c.whole.ensures
+returns c = let a = c.args in told_by (in18 0) good_18 a.t.now _ _ (ap (λ (x : Found18). x.end) c.field18-f.ensures) c.whole.ensures

@@ -27,7 +27,7 @@ pub decide-first-requires : goal.decide-first-requires
 decide-first-requires c =
     let h = c.requires in
     let a = c.args in
-    subst (λ (x : List ℕ). Judged x Read a.q) (sym c.slice_known-4-1.ensures) h.7
+    subst (λ (x : List ℕ). Judged x Read a.q) (sym c.text-t.ensures) h.7
 
 pub lay_answer-n-requires : goal.lay_answer-n-requires
 lay_answer-n-requires c =
@@ -36,7 +36,7 @@ lay_answer-n-requires c =
     let m = message_of a.w.now a.r in
     let t = (waiting_of (place a.i a.unanswered.now)).text in
     let l = flights_in a.sent.now in
-    (h.0, omega arith, subst (λ (x : ℕ). x < 100) (sym (crossing_answer _ t a.q m l _ _ _ _ c.slice_known-3-1.ensures h.8 c.text-t.ensures c.decide_after-c.ensures c.deed_of.ensures c.answer_to-v.ensures)) (answer_small (deed_of m) (decision m (applied (message_of t a.q) l))))
+    (h.0, omega arith, subst (λ (x : ℕ). x < 100) (sym (crossing_answer _ t a.q m l _ _ _ _ c.text-t.ensures h.8 c.decide-first.ensures c.decide_after-c.ensures c.deed_of.ensures c.answer_to-v.ensures)) (answer_small (deed_of m) (decision m (applied (message_of t a.q) l))))
 
 pub returns-then-out-n : goal.returns-then-out-n
 returns-then-out-n c =
@@ -45,14 +45,14 @@ returns-then-out-n c =
     let m = message_of a.w.now a.r in
     let t = (waiting_of (place a.i a.unanswered.now)).text in
     let l = flights_in a.sent.now in
-    does_none (crossing_answer _ t a.q m l _ _ _ _ c.slice_known-3-1.ensures h.8 c.text-t.ensures c.decide_after-c.ensures c.deed_of.ensures c.answer_to-v.ensures) c.lay_answer-n.ensures c.if-out-n.true (refl, refl)
+    does_none (crossing_answer _ t a.q m l _ _ _ _ c.text-t.ensures h.8 c.decide-first.ensures c.decide_after-c.ensures c.deed_of.ensures c.answer_to-v.ensures) c.lay_answer-n.ensures c.if-out-n.true (refl, refl)
 
 pub follow_both-requires : goal.follow_both-requires
 follow_both-requires c =
     let h = c.requires in
     let a = c.args in
     let m = message_of a.w.now a.r in
-    (subst (λ (x : List ℕ). Judged x Read a.q) (sym c.slice_known-3-1.ensures) h.7, h.0, h.1, subst (λ (x : List ℕ). Crosses (message_of x a.q) m) (sym c.slice_known-3-1.ensures) h.8, c.text-t.ensures, c.decide_after-c.ensures)
+    (subst (λ (x : List ℕ). Judged x Read a.q) (sym c.text-t.ensures) h.7, h.0, h.1, subst (λ (x : List ℕ). Crosses (message_of x a.q) m) (sym c.text-t.ensures) h.8, c.decide-first.ensures, c.decide_after-c.ensures)
 
 pub free-requires : goal.free-requires
 free-requires c =
@@ -76,4 +76,4 @@ returns c =
     let m = message_of a.w.now a.r in
     let t = (waiting_of (place a.i a.unanswered.now)).text in
     let l = flights_in a.sent.now in
-    does_room (crossing_answer _ t a.q m l _ _ _ _ c.slice_known-3-1.ensures h.8 c.text-t.ensures c.decide_after-c.ensures c.deed_of.ensures c.answer_to-v.ensures) c.lay_answer-n.ensures c.if-out-n.false (c.follow_both.ensures ∙ ap (λ (x : List ℕ). table_of (applied m (applied (message_of x a.q) l))) c.slice_known-3-1.ensures, c.free.ensures) c.reply.ensures
+    does_room (crossing_answer _ t a.q m l _ _ _ _ c.text-t.ensures h.8 c.decide-first.ensures c.decide_after-c.ensures c.deed_of.ensures c.answer_to-v.ensures) c.lay_answer-n.ensures c.if-out-n.false (c.follow_both.ensures ∙ ap (λ (x : List ℕ). table_of (applied m (applied (message_of x a.q) l))) c.text-t.ensures, c.free.ensures) c.reply.ensures

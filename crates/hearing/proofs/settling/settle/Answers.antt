@@ -20,9 +20,9 @@ returns-then-not-proper c =
 pub settle_sent-requires : goal.settle_sent-requires
 settle_sent-requires c =
     let h = c.requires in
-    (h.0, kept_ruled h.3 c.text-2.ensures, c.text.ensures ∙ ap (λ (x : List ℕ). deed_of (message_in x)) (c.slice_known-2-1.ensures ∙ sym c.text-2.ensures))
+    (h.0, kept_ruled h.3 c.text-2.ensures, c.kept_deed-d.ensures ∙ ap (λ (x : List ℕ). deed_of (message_in x)) (c.text.ensures ∙ sym c.text-2.ensures))
 
 pub returns : goal.returns
 returns c =
     let a = c.args in
-    right_answer a.h a.k a.i a.sent.now a.unanswered.now c.requires.3 c.text-2.ensures (c.text.ensures ∙ ap (λ (x : List ℕ). deed_of (message_in x)) (c.slice_known-2-1.ensures ∙ sym c.text-2.ensures)) c.kept_deed-d.ensures c.requires.2 (not-false _ c.proper.false) c.settle_sent.ensures c.free.ensures
+    right_answer a.h a.k a.i a.sent.now a.unanswered.now c.requires.3 c.text-2.ensures (c.kept_deed-d.ensures ∙ ap (λ (x : List ℕ). deed_of (message_in x)) (c.text.ensures ∙ sym c.text-2.ensures)) c.proper.ensures c.requires.2 (not-false _ c.if-not-proper.false-raw) c.settle_sent.ensures c.free.ensures

@@ -17,8 +17,8 @@ returns-then-not-is_sound_beside c =
 pub returns-then-is_answer : goal.returns-then-is_answer
 returns-then-is_answer c =
     let a = c.args in
-    let g = c.slice_known-3-1.ensures.yes (not-false _ c.is_sound_beside.false) in
-    sent_refused a.d.now a.r a.h (lent a.sent.now a.received.now a.unanswered.now a.answers.now) a.out.now c.refuse.result g c.refuse.ensures (λ k. absurd (false≢true (sym k ∙ sym c.if-not-is_sound_beside.ensures ∙ c.is_answer.true)))
+    let g = c.is_sound_beside.ensures.yes (not-false _ c.if-not-is_sound_beside.false-raw) in
+    sent_refused a.d.now a.r a.h (lent a.sent.now a.received.now a.unanswered.now a.answers.now) a.out.now c.refuse.result g c.refuse.ensures (λ k. absurd (false≢true (sym k ∙ sym c.is_answer.ensures ∙ c.if-is_answer.true)))
 
 pub slice_bounds-draft-end-2 : goal.slice_bounds-draft-end-2
 slice_bounds-draft-end-2 c =
@@ -61,6 +61,6 @@ returns-in-Written c =
 pub returns-in-BreaksRule : goal.returns-in-BreaksRule
 returns-in-BreaksRule c =
     let a = c.args in
-    let g = c.slice_known-3-1.ensures.yes (not-false _ c.is_sound_beside.false) in
+    let g = c.is_sound_beside.ensures.yes (not-false _ c.if-not-is_sound_beside.false-raw) in
     sent_refused a.d.now a.r a.h (lent a.sent.now a.received.now a.unanswered.now a.answers.now) a.out.now c.refuse-in-BreaksRule.result g c.refuse-in-BreaksRule.ensures
-    (λ k. none_drawn a.h.ours a.h.partners a.h.next a.d.now a.r _ _ _ c.partners-2-1.ensures c.in-BreaksRule.given.1)
+    (λ k. none_drawn a.h.ours a.h.partners a.h.next a.d.now a.r _ _ _ c.draft-v.ensures c.in-BreaksRule.is)

@@ -13,5 +13,5 @@ returns-then-three-eq0 c = let a = c.args in skipped a.d.now a.text.now a.p (a.a
 pub returns : goal.returns
 returns c =
     let a = c.args in
-    stands _ (omega (arith, c.if-three-eq0.ensures, c.add-arg-1.false)) (rw (append-nil (cut a.d.now a.c), own_part a.d.now a.a))
-    (then (c.text-1.ensures a.d.now) (then c.text-2-1.ensures (then c.text-3-1.ensures (then (c.add-p4.ensures a.d.now) c.add_part.ensures))))
+    stands _ (omega (arith, c.three.ensures, c.if-three-eq0.false)) (rw (append-nil (cut a.d.now a.c), own_part a.d.now a.a))
+    (then (c.add-p1.ensures a.d.now) (then c.add_part-p2.ensures (then c.add_part-p3.ensures (then (c.add-p4.ensures a.d.now) c.add_part.ensures))))

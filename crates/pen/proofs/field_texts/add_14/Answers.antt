@@ -13,8 +13,8 @@ returns-then-five-eq0 c = let a = c.args in skipped a.d.now a.text.now a.p (a.a 
 pub returns : goal.returns
 returns c =
     let a = c.args in
-    stands _ (omega (arith, c.if-five-eq0.ensures, c.add-arg-1.false)) (rw (append-nil (cut a.d.now a.f), two_parts a.d.now a.e a.f))
-    (then (c.text-1.ensures a.d.now) (then c.text-2-1.ensures (then (c.add-p3.ensures a.d.now) (then c.add_part-p4.ensures (then c.add_part-p5.ensures (then c.add_part-p6.ensures c.add_part.ensures))))))
+    stands _ (omega (arith, c.five.ensures, c.if-five-eq0.false)) (rw (append-nil (cut a.d.now a.f), two_parts a.d.now a.e a.f))
+    (then (c.add-p1.ensures a.d.now) (then c.add_part-p2.ensures (then (c.add-p3.ensures a.d.now) (then c.add_part-p4.ensures (then c.add_part-p5.ensures (then c.add_part-p6.ensures c.add_part.ensures))))))
 
 pub shape_of-text : goal.shape_of-text
-shape_of-text c = let a = c.args in (then (c.text-1.ensures a.d.now) (then c.text-2-1.ensures (then (c.add-p3.ensures a.d.now) (then c.add_part-p4.ensures (then c.add_part-p5.ensures (then c.add_part-p6.ensures c.add_part.ensures)))))).size
+shape_of-text c = let a = c.args in (then (c.add-p1.ensures a.d.now) (then c.add_part-p2.ensures (then (c.add-p3.ensures a.d.now) (then c.add_part-p4.ensures (then c.add_part-p5.ensures (then c.add_part-p6.ensures c.add_part.ensures)))))).size

@@ -12,5 +12,5 @@ returns-then-both-eq0 c = let a = c.args in skipped a.d.now a.text.now a.p (a.a 
 pub returns : goal.returns
 returns c =
     let a = c.args in
-    stands _ (omega (arith, c.if-both-eq0.ensures, c.add-arg-1.false)) (rw (append-nil (led_by (47 ∷ []) a.d.now a.b), form_18 a.d.now a.a a.b))
-    (then (c.text-1.ensures a.d.now) (then c.text-2-1.ensures c.add_led.ensures))
+    stands _ (omega (arith, c.both.ensures, c.if-both-eq0.false)) (rw (append-nil (led_by (47 ∷ []) a.d.now a.b), form_18 a.d.now a.a a.b))
+    (then (c.add-p1.ensures a.d.now) (then c.add_part-p2.ensures c.add_led.ensures))

@@ -5,4 +5,4 @@ use Rattle.flights.specs.Made.{byte_active}
 use Rattle.perform.proofs.filing.enter.Goals as goal
 
 pub returns : goal.returns
-returns c = c.put_14.ensures.on _ _ (c.table-1.ensures active byte_active)
+returns c = c.put_14.ensures.on _ _ (c.file.ensures active byte_active)

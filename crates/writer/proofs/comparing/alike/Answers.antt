@@ -7,4 +7,4 @@ use Rattle.writer.proofs.comparing.alike.Goals as goal
 pub returns : goal.returns
 returns c =
     let a = c.args in
-    decides_by (rw (c.same_lengths.ensures, c.same_figures-arg-1.ensures)) (records_alike a.a a.b _ _ (decides_by c.same_figures-arg-2-1.ensures (lengths_same a.a a.b)) c.same_figures.ensures)
+    decides_by (rw (c.kind_number.ensures, c.kind_number-2.ensures)) (records_alike a.a a.b _ _ (decides_by c.same_lengths.ensures (lengths_same a.a a.b)) c.same_figures.ensures)
