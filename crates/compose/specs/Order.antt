@@ -222,12 +222,12 @@ in_08 : Within (byte 45 ⨾ (from08 ⨾ byte 41)) at08
 unfolding from08
 in_08 = from_here in_09 end09
 
-in_changes : Within (byte 45 ⨾ (in_changes ⨾ byte 41)) at07
+in_changes_lem : Within (byte 45 ⨾ (in_changes ⨾ byte 41)) at07
 unfolding in_changes
-in_changes = splits (has same end08) (lacks in_08)
+in_changes_lem = splits (has same end08) (lacks in_08)
 
 in_22 : Within (byte 45 ⨾ (changes ⨾ byte 41)) at07
-in_22 = record { into = in_changes.into }
+in_22 = record { into = in_changes_lem.into }
 
 -- with the message's own field 18, which has three forms
 own_18 : {g : G} → Within g (g18 0) → Within (byte 45 ⨾ ((g ─ changes) ⨾ byte 41)) (g18 0 ┄ at07)
@@ -237,8 +237,8 @@ in_forms : Within (byte 45 ⨾ (in_changed ⨾ byte 41)) (g18 0 ┄ at07)
 unfolding in_changed in18
 in_forms = splits (lacks in_22) (splits (own_18 (named first)) (splits (own_18 (named (second first))) (own_18 (named (second (second same))))))
 
-in_changed : Within (byte 45 ⨾ (changed ⨾ byte 41)) (g18 0 ┄ at07)
-in_changed = record { into = in_forms.into }
+in_changed_lem : Within (byte 45 ⨾ (changed ⨾ byte 41)) (g18 0 ┄ at07)
+in_changed_lem = record { into = in_forms.into }
 
 -- THE TEN TYPES
 
@@ -259,7 +259,7 @@ in_est = refers (has same (lacks (lacks (lacks (has in_13s (has same (lacks (has
 
 pub in_chg : Within chg (ordered 67 72 71)
 unfolding chg ordered
-in_chg = refers (has in_07a (lacks (lacks (lacks (has same (lacks (lacks (has in_16s in_changed))))))))
+in_chg = refers (has in_07a (lacks (lacks (lacks (has same (lacks (lacks (has in_16s in_changed_lem))))))))
 
 pub in_cnl : Within cnl (ordered 67 78 76)
 unfolding cnl ordered

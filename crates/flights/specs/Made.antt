@@ -1,7 +1,7 @@
 -- A RECORD THAT IS MADE STEP BY STEP: what a call that changes a table writes, as a change of the flight.
 use Rattle.std.specs.Prelude.{◌≡◌, List, [], ◌∷◌, ◌++◌, ℕ, zero, suc, ◌+◌, ◌*◌, ◌≤◌, ◌<◌, length, set, replicate}
 use Rattle.std.proofs.Math.Path.{refl}
-use Rattle.std.proofs.Common.{sym, ap, ◌∙◌, subst, arith, length_set, drop-cons}
+use Rattle.std.proofs.Common.{sym, ap, ◌∙◌, subst, arith, length-set, drop-cons}
 use Rattle.std.proofs.Math.ListN.{drop}
 use Rattle.std.proofs.Math.Seq.{drop-length}
 use Rattle.splice.specs.Splice.{splice}
@@ -84,7 +84,7 @@ row_from_lem (suc m) k ts e = drop-cons ts k [] (omega arith) ∙ ap (λ (us : L
 
 texts_set : (k : ℕ) (s : List ℕ) (f : Flight) → texts_of (with_text k s f) ≡ set (texts_of f) k s
 unfolding row_from
-texts_set k s f = sym (row_from_lem 12 0 (set (texts_of f) k s) (sym (length_set (texts_of f) k s)))
+texts_set k s f = sym (row_from_lem 12 0 (set (texts_of f) k s) (sym (length-set (texts_of f) k s)))
 
 -- what stands before the row
 front : Flight → List ℕ

@@ -7,7 +7,7 @@ use native.Mathlib.Nat.{pow-suc}
 use native.Mathlib.Numerals.{add-one}
 use native.Mathlib.Omega.{arith}
 use lib.Dec.{ltb}
-use lib.ListN.{length, take, drop, set, length-append, length-drop, length_set}
+use lib.ListN.{length, take, drop, set, length-append, length-drop, length-set}
 use lib.Seq.{take_all, drop-cons, drop-set-lt, get_or-set_same}
 use borrow.Author.Tests.{lt-ltb, le-ltb, ltb-false, ltb-true}
 use Rattle.lines.specs.Numbers.{decimal, decimal_by}
@@ -59,7 +59,7 @@ twenty n h = decimal_short 19 n (omega arith)
 
 drop_written : (s : List ℕ) (i v : ℕ) → i < length s → drop i (set s i v) ≡ v ∷ drop (i + 1) s
 drop_written s i v h =
-    let l : length (set s i v) ≡ length s = length_set s i v in
+    let l : length (set s i v) ≡ length s = length-set s i v in
     let k : i < length (set s i v) = omega arith in
     rw (drop-cons (set s i v) i 0, get_or-set_same s i v 0, drop-set-lt (suc i) s i v (omega arith), add-one)
 
@@ -73,7 +73,7 @@ pub digits_last : (n rest i v : ℕ) (s : List ℕ) → rest < 10 → 0 < i → 
     → decimal n ≡ decimal rest ++ drop i s → take (20 - (i - 1)) (drop (i - 1) (set s (i - 1) v)) ≡ decimal n
 digits_last n rest i v s h p g l q e =
     let k : i - 1 + 1 ≡ i = omega arith in
-    take_all (20 - (i - 1)) _ (simp (length-drop, length_set) (omega arith))
+    take_all (20 - (i - 1)) _ (simp (length-drop, length-set) (omega arith))
     ∙ sym (e ∙ rw (decimal_one rest h, drop_written s (i - 1) v (omega arith), k, q))
 
 -- a number that has another digit has room for it

@@ -1,6 +1,6 @@
 -- Numbers that are written one behind the other.
 use Rattle.std.specs.Prelude.{◌≡◌, refl, List, [], ◌∷◌, ◌++◌, ℕ, ◌+◌, ◌*◌, ◌≤◌, ◌<◌, length, get_or, take, drop, set}
-use Rattle.std.proofs.Common.{sym, ap, ◌∙◌, subst, add-one, arith, length_set, length-append, take_all, take-suc}
+use Rattle.std.proofs.Common.{sym, ap, ◌∙◌, subst, add-one, arith, length-set, length-append, take_all, take-suc}
 use Rattle.scan.specs.Grammar.{Span, place_of, size_of}
 use Rattle.message.specs.declared.Record.{Record}
 use Rattle.places.specs.Bytes.{high, low}
@@ -34,10 +34,10 @@ pub one : (k n : ℕ) (d : List ℕ) → 2 * k + 2 ≤ length d → Puts k (n �
 unfolding bytes_in
 one k n d h =
     let e : List ℕ = set d (2 * k) (low (high n)) in
-    let l : length e ≡ length d = length_set d (2 * k) (low (high n)) in
+    let l : length e ≡ length d = length-set d (2 * k) (low (high n)) in
     let a : Spliced (2 * k) (low (high n) ∷ []) d e (2 * k + 1) = record { bytes = set_splice d (2 * k) (low (high n)) (omega arith); place = refl } in
     let b : Spliced (2 * k + 1) (low n ∷ []) e (set e (2 * k + 1) (low n)) (2 * k + 2) = record { bytes = set_splice e (2 * k + 1) (low n) (omega arith); place = omega arith } in
-    record { bytes = (s.then a b h).bytes; place = refl; long = length_set e (2 * k + 1) (low n) ∙ l }
+    record { bytes = (s.then a b h).bytes; place = refl; long = length-set e (2 * k + 1) (low n) ∙ l }
 
 -- of other numbers that are the same
 pub same : {k next : ℕ} {ns ms d e : List ℕ} → ns ≡ ms → Puts k ns d e next → Puts k ms d e next

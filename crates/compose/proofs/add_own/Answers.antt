@@ -14,6 +14,3 @@ returns c =
     (then c.add_15-p7.ensures
     (then c.add_16-p8.ensures
     c.add_18.ensures)))))))
-
-pub shape_of-text : goal.shape_of-text
-shape_of-text c = (laid (goal.at.shape_of-text c).After-slice_known-10-1).size

@@ -13,6 +13,3 @@ returns c =
     (then c.add_led-p5.ensures
     (then c.add_led-p6.ensures
     (c.add.ensures a.d.now))))))
-
-pub shape_of-text : goal.shape_of-text
-shape_of-text c = (laid (goal.at.shape_of-text c).After-slice_known-8-1).size

@@ -3,7 +3,7 @@ use mathlib.Core.Path.{◌≡◌, refl, sym, ◌∙◌}
 use mathlib.Core.List.{◌++◌, append-nil}
 use Prim.Native.Nat.{◌≤◌, ◌<◌, ◌-◌, ◌+◌, ◌^◌}
 use native.Mathlib.Omega.{arith}
-use lib.ListN.{length, take, drop, set, length_set}
+use lib.ListN.{length, take, drop, set, length-set}
 use Rattle.lines.specs.Numbers.{decimal}
 use Rattle.lines.proofs.Decimals.{digits_more, digits_last, another, twenty}
 use Rattle.splice.specs.Splicing.{same_bytes}
@@ -32,7 +32,7 @@ loop-rest-preserved c =
     let p = another l.i l.rest c.loop-rest-test.true l.invariant.3 in (
       omega (arith, p.0),
       omega arith,
-      length_set l.digits (l.i - 1) c.digit.result ∙ l.invariant.2,
+      length-set l.digits (l.i - 1) c.digit.result ∙ l.invariant.2,
       p.1,
       digits_more a.n l.rest l.i c.digit.result l.digits c.loop-rest-test.true l.invariant.0 (omega arith) c.digit.ensures l.invariant.4,
     )
@@ -53,7 +53,7 @@ pub slice_bounds-put-start : goal.slice_bounds-put-start
 slice_bounds-put-start c = search rules
 
 pub slice_bounds-put-end : goal.slice_bounds-put-end
-slice_bounds-put-end c = simp length_set (omega arith)
+slice_bounds-put-end c = simp length-set (omega arith)
 
 -- what is handed to put is the number in decimal
 spelt : (c : After-put-arg-2-1)

@@ -1,6 +1,6 @@
 -- THE GIVEN ANSWERS stay well formed: one is given, or some are forgotten.
 use Rattle.std.specs.Prelude.{◌≡◌, refl, Bool, true, false, cond, List, ◌∷◌, ◌++◌, ℕ, ◌+◌, ◌≤◌, get_or, take, drop, set}
-use Rattle.std.proofs.Common.{sym, ap, ◌∙◌, subst, ⊎_elim, add-one, arith, length_set, get_or-set_same, get_or-set_other}
+use Rattle.std.proofs.Common.{sym, ap, ◌∙◌, subst, ⊎_elim, add-one, arith, length-set, get_or-set_same, get_or-set_other}
 use Rattle.std.proofs.lemmas.List.{set_split}
 use Rattle.answers.specs.Given.{is_value, AnswersFormed, after, forgotten}
 use Rattle.answers.specs.Forgetting.{forgotten_long, forgotten_at}
@@ -11,7 +11,7 @@ pub given_formed : (n v : ℕ) (a : List ℕ) → AnswersFormed a → n ≤ 999 
 given_formed n v a f l y =
     let e : set a n v ≡ given n v a = set_split a n v (omega (arith, f.whole)) ∙ ap (λ (k : ℕ). take n a ++ (v ∷ drop k a)) (sym (add-one n)) in
     subst AnswersFormed e (record {
-      whole = length_set a n v ∙ f.whole;
+      whole = length-set a n v ∙ f.whole;
       values = λ i h.
           ⊎_elim
           (λ c. ap is_value (ap (λ (k : ℕ). get_or (set a n v) k 0) c ∙ get_or-set_same a n v 0 (omega (arith, f.whole))) ∙ y)

@@ -18,26 +18,26 @@ use Rattle.deeds.specs.Message.{message_of}
 use Rattle.sending.specs.Asked.{is_naming, is_making}
 use Rattle.sending.specs.Survey.{sees_broken, sees_empty, sees_message}
 use Rattle.sending.proofs.see.Goals as goal
-use Rattle.sending.proofs.see.Goals.{After-look-l}
+use Rattle.sending.proofs.see.Goals.{After-look-l, After-is_proper}
+
+shown_as : (c : After-look-l) (x : Shown) → c.look-l.result ≡ x → ShowsAt c.args.u.now c.args.i x
+shown_as c x e = subst (ShowsAt c.args.u.now c.args.i) e c.look-l.ensures
 
 -- a place that shows a message, once its text is read
-module _ (c : tie.After-is-proper) where
-  message : let a = c.before.before.before.before.before.before.before.before.before.before.before.args in ShowsAt a.u.now a.i Message
-  message = shown_as c.before.before.before.before.before.before Message c.before.before.before.before.enum-told3.given.1
+module _ (c : After-is_proper) where
+  message : ShowsAt c.args.u.now c.args.i Message
+  message = subst (ShowsAt c.args.u.now c.args.i) c.in-Message.is c.look-l.ensures
 
-  formed : let a = c.before.before.before.before.before.before.before.before.before.before.before.args in Decides c.is-proper.result (FormedAt a.ours.now a.partners.now a.u.now a.i)
-  formed = let a = c.before.before.before.before.before.before.before.before.before.before.before.args in proper_at a.ours.now a.partners.now a.u.now a.i message _ c.is-proper.ensures
+  formed : Decides c.is_proper.result (FormedAt c.args.ours.now c.args.partners.now c.args.u.now c.args.i)
+  formed = proper_at c.args.ours.now c.args.partners.now c.args.u.now c.args.i message _ c.is_proper.ensures
 
-  kept : c.is-proper.result ≡ true → Judged c.before.before.before.text.result.now Read c.before.before.read.result.record
+  kept : c.is_proper.result ≡ true → Judged c.text-s.result.now Read c.read-q.result.record
   kept y =
-      let a = c.before.before.before.before.before.before.before.before.before.before.before.args in
-      let q = c.before.before.read in
-      let e = c.before.before.before.text.ensures in
+      let a = c.args in
+      let q = c.read-q in
+      let e = c.text-s.ensures in
       let j = subst (λ (x : List ℕ). Judged x q.result.verdict q.result.record) e q.ensures in
-      subst (λ (x : List ℕ). Judged x Read q.result.record) (sym e) (proper_read a.ours.now a.partners.now (waiting_of (place a.i a.u.now)) q.result.verdict q.result.record j (c.is-proper.ensures.yes y))
-
-shown_as : (c : After-look-l) (x : Shown) → c.look.result ≡ x → let a = c.before.before.before.before.before.args in ShowsAt a.u.now a.i x
-shown_as c x e = let a = c.before.before.before.before.before.args in subst (ShowsAt a.u.now a.i) e c.look.ensures
+      subst (λ (x : List ℕ). Judged x Read q.result.record) (sym e) (proper_read a.ours.now a.partners.now (waiting_of (place a.i a.u.now)) q.result.verdict q.result.record j (c.is_proper.ensures.yes y))
 
 pub text-s-requires : goal.text-s-requires
 text-s-requires c = let h = c.requires in (h.0, h.1, (shown_as (goal.at.text-s-requires c).After-look-l Message c.in-Message.is).0.1)

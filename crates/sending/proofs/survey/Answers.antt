@@ -1,7 +1,6 @@
 use borrow.Author.Rules.{rules}
 use borrow.Author.Tests.{not-true, not-false}
 use mathlib.Core.Path.{◌≡◌, sym, ap, ◌∙◌, subst}
-use mathlib.Core.Logic.{⊎_elim}
 use mathlib.Core.Bool.{◌||◌}
 use Prim.Native.Nat.{ℕ, ◌+◌, ◌≤◌, ◌-◌}
 use native.Mathlib.Omega.{arith}
@@ -14,6 +13,7 @@ use Rattle.rules.specs.Sending.{any_waiting, count_waiting, naming, making}
 use Rattle.sending.specs.Asked.{rest_of, rest_all, any_on_further, any_end, count_all, count_one, count_not, count_end}
 use Rattle.sending.specs.Survey.{not_surveyed, one_broken, surveyed}
 use Rattle.sending.proofs.survey.Goals as goal
+use Rattle.sending.proofs.survey.Goals.{then-x, else-x}
 
 pub returns-then-u-ne20480 : goal.returns-then-u-ne20480
 returns-then-u-ne20480 c =
@@ -46,10 +46,10 @@ loop-i-preserved c =
     let on : ℕ → ℕ = λ k. k + count_waiting making (rest_of (l.i + 1) U) in
     let formed = one_further (FormedAt a.ours.now a.partners.now U) l.i l.invariant.2 (s.formed.yes y) in
     let any = any_on_further (naming m) l.i U _ l.named c.see-x.result.named h (s.named y) l.invariant.3 in
-    ⊎_elim
-    (λ w. (search rules, omega (arith, w.1, l.invariant.1), formed, any, count_one making l.i _ l.makers U h (sym (s.makes y) ∙ w.0.taken) l.invariant.4 ∙ ap on (sym w.1)))
-    (λ w. (search rules, omega (arith, w.1, l.invariant.1), formed, any, count_not making l.i _ l.makers U h (sym (s.makes y) ∙ w.0.left) l.invariant.4 ∙ ap on (sym w.1)))
-    c.if-x.branch
+    elim c.if-x.branch [
+      then-x w ↦ (search rules, omega (arith, w.makers-is, l.invariant.1), formed, any, count_one making l.i _ l.makers U h (sym (s.makes y) ∙ w.if-x.true) l.invariant.4 ∙ ap on (sym w.makers-is)) |
+      else-x w ↦ (search rules, omega (arith, w.makers-is, l.invariant.1), formed, any, count_not making l.i _ l.makers U h (sym (s.makes y) ∙ w.if-x.false) l.invariant.4 ∙ ap on (sym w.makers-is))
+    ]
 
 pub returns : goal.returns
 returns c =

@@ -12,8 +12,8 @@ use Rattle.unanswered.specs.Formed.{broken_at, empty_at, proper_at}
 use Rattle.unanswered.proofs.is_formed.Goals as goal
 use Rattle.unanswered.proofs.is_formed.Goals.{After-look-l}
 
-shown_as : (c : After-look-l) (x : Shown) → c.look.result ≡ x → let a = c.before.before.before.before.args in ShowsAt a.t.now a.i x
-shown_as c x e = let a = c.before.before.before.before.args in subst (ShowsAt a.t.now a.i) e c.look.ensures
+shown_as : (c : After-look-l) (x : Shown) → c.look-l.result ≡ x → ShowsAt c.args.t.now c.args.i x
+shown_as c x e = subst (ShowsAt c.args.t.now c.args.i) e c.look-l.ensures
 
 pub text-requires : goal.text-requires
 text-requires c = let h = c.requires in (h.0, h.1, (shown_as (goal.at.text-requires c).After-look-l Message c.in-Message.is).0.1)
@@ -22,7 +22,7 @@ pub is_proper-requires : goal.is_proper-requires
 is_proper-requires c =
     let h = c.requires in
     let q = c.read-q in
-    (h.0, h.1, (shown_as (goal.at.is_proper-requires c).In-Message-1 Message c.in-Message.is).0.1, (q.result.verdict, subst (λ (x : List ℕ). Judged x q.result.verdict q.result.record) c.text.ensures q.ensures))
+    (h.0, h.1, (shown_as (goal.at.is_proper-requires c).After-look-l Message c.in-Message.is).0.1, (q.result.verdict, subst (λ (x : List ℕ). Judged x q.result.verdict q.result.record) c.text.ensures q.ensures))
 
 pub returns-in-Broken : goal.returns-in-Broken
 returns-in-Broken c = let a = c.args in broken_at a.ours.now a.partners.now a.t.now a.i (shown_as (goal.at.returns-in-Broken c).After-look-l Broken c.in-Broken.is)
@@ -31,4 +31,4 @@ pub returns-in-Empty : goal.returns-in-Empty
 returns-in-Empty c = let a = c.args in empty_at a.ours.now a.partners.now a.t.now a.i (shown_as (goal.at.returns-in-Empty c).After-look-l Empty c.in-Empty.is)
 
 pub returns-in-Message : goal.returns-in-Message
-returns-in-Message c = let a = c.args in proper_at a.ours.now a.partners.now a.t.now a.i (shown_as (goal.at.returns-in-Message c).In-Message-1 Message c.in-Message.is) _ c.is_proper.ensures
+returns-in-Message c = let a = c.args in proper_at a.ours.now a.partners.now a.t.now a.i (shown_as (goal.at.returns-in-Message c).After-look-l Message c.in-Message.is) _ c.is_proper.ensures

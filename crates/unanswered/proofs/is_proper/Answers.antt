@@ -21,7 +21,7 @@ number_at-n-requires c =
     h
 
 -- the text is judged as the place's is
-judged : (c : After-text-s) → let s = c.Start in Judged c.text-s.result.now s.requires.3.0 s.args.its
+judged : (c : After-text-s) → Judged c.text-s.result.now c.requires.3.0 c.args.its
 judged c = subst (λ (x : List ℕ). Judged x c.requires.3.0 c.args.its) (sym c.text-s.ensures) c.requires.3.1
 
 pub is_part-requires : goal.is_part-requires

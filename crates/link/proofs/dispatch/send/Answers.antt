@@ -5,6 +5,7 @@ use mathlib.Core.Path.{refl, sym, ◌∙◌}
 use mathlib.Core.Bool.{false≢true}
 use Prim.Native.Nat.{ℕ}
 use native.Mathlib.Omega.{arith}
+use Rattle.std.specs.Prelude.{replicate}
 use Rattle.memory.specs.End.{lent}
 use Rattle.link.specs.Sending.{head_names, none_drawn, one_drawn, drawn_size, drawn_fits, drawn_ruled, sent_damaged, sent_refused, sent_drafted}
 use Rattle.link.proofs.dispatch.send.Goals as goal
@@ -37,18 +38,18 @@ draft-v-requires c =
 pub slice_bounds-text-end : goal.slice_bounds-text-end
 slice_bounds-text-end c =
     let k : ℕ = c.in-Written.n in
-    drawn_fits _ _ _ _ _ _ _ _ c.draft-v.ensures k c.in-Written.is refl
+    drawn_fits c.args.h.ours c.args.h.partners c.args.h.next c.args.d.now c.args.r (replicate 1077 0) c.draft-v.new.text c.draft-v.result c.draft-v.ensures k c.in-Written.is refl
 
 pub slice_bounds-send_draft-end : goal.slice_bounds-send_draft-end
 slice_bounds-send_draft-end c =
     let k : ℕ = c.in-Written.n in
-    sym (drawn_size _ _ _ _ _ _ _ _ c.draft-v.ensures k c.in-Written.is)
+    sym (drawn_size c.args.h.ours c.args.h.partners c.args.h.next c.args.d.now c.args.r (replicate 1077 0) c.draft-v.new.text c.draft-v.result c.draft-v.ensures k c.in-Written.is)
 
 pub send_draft-requires : goal.send_draft-requires
 send_draft-requires c =
     let k : ℕ = c.in-Written.n in
     let g = c.is_sound_beside.ensures.yes (not-false _ c.if-not-is_sound_beside.false-raw) in
-    (drawn_ruled _ _ _ _ _ _ _ _ c.draft-v.ensures k c.in-Written.is, g.head, g.sent, g.received)
+    (drawn_ruled c.args.h.ours c.args.h.partners c.args.h.next c.args.d.now c.args.r (replicate 1077 0) c.draft-v.new.text c.draft-v.result c.draft-v.ensures k c.in-Written.is, g.head, g.sent, g.received)
 
 pub returns-in-Written : goal.returns-in-Written
 returns-in-Written c =
@@ -56,11 +57,11 @@ returns-in-Written c =
     let k : ℕ = c.in-Written.n in
     let g = c.is_sound_beside.ensures.yes (not-false _ c.if-not-is_sound_beside.false-raw) in
     sent_drafted a.d.now a.r a.h (lent a.sent.now a.received.now a.unanswered.now a.answers.now) a.out.now _ c.send_draft.result _ _ (sym c.is_answer.ensures ∙ c.if-is_answer.false)
-    (one_drawn a.h.ours a.h.partners a.h.next a.d.now a.r _ _ _ c.draft-v.ensures k c.in-Written.is) (c.send_draft.ensures a.answers.now g.answers)
+    (one_drawn a.h.ours a.h.partners a.h.next a.d.now a.r (replicate 1077 0) c.draft-v.new.text c.draft-v.result c.draft-v.ensures k c.in-Written.is) (c.send_draft.ensures a.answers.now g.answers)
 
 pub returns-in-BreaksRule : goal.returns-in-BreaksRule
 returns-in-BreaksRule c =
     let a = c.args in
     let g = c.is_sound_beside.ensures.yes (not-false _ c.if-not-is_sound_beside.false-raw) in
     sent_refused a.d.now a.r a.h (lent a.sent.now a.received.now a.unanswered.now a.answers.now) a.out.now c.refuse-in-BreaksRule.result g c.refuse-in-BreaksRule.ensures
-    (λ k. none_drawn a.h.ours a.h.partners a.h.next a.d.now a.r _ _ _ c.draft-v.ensures c.in-BreaksRule.is)
+    (λ k. none_drawn a.h.ours a.h.partners a.h.next a.d.now a.r (replicate 1077 0) c.draft-v.new.text c.draft-v.result c.draft-v.ensures c.in-BreaksRule.is)

@@ -20,13 +20,13 @@ put-requires c =
 
 pub put-requires-2 : goal.put-requires-2
 put-requires-2 c =
-    let m : length c.args.h.ours ≡ 4 = omega (arith, ours_four (goal.at.put-requires-2 c).After-ours-2-1) in
-    let n : length c.args.h.partners ≡ 4 = omega (arith, partners_four (goal.at.put-requires-2 c).After-partners-2-1) in
+    let m : length c.args.h.ours ≡ 4 = search rules in
+    let n : length c.args.h.partners ≡ 4 = search rules in
     let k = kept_length c.put.ensures (omega (arith, c.put.ensures.place, c.requires, m)) in
     omega (arith, n, k, c.requires)
 
 pub returns : goal.returns
 returns c =
-    let m : length c.args.h.ours ≡ 4 = omega (arith, ours_four (goal.at.returns c).After-ours-2-1) in
-    let n : length c.args.h.partners ≡ 4 = omega (arith, partners_four (goal.at.returns c).After-partners-2-1) in
+    let m : length c.args.h.ours ≡ 4 = search rules in
+    let n : length c.args.h.partners ≡ 4 = search rules in
     head_put c.args.h m n _ _ _ _ _ c.requires c.put.ensures c.put-2.ensures c.put_one.ensures c.put_one-2.ensures
