@@ -74,4 +74,4 @@ shape_of-d c = search rules
 pub returns : goal.returns
 returns c =
     let w = same_bytes (spelt (goal.at.returns c).After-put-arg-2-1) c.put.ensures in
-    (w, omega (arith, w.place, twenty c.args.n c.ranges.n.fits))
+    record { spliced = w; upper_bound = omega (arith, w.place, twenty c.args.n c.ranges.n.fits) }

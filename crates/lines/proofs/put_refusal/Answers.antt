@@ -5,4 +5,4 @@ use Rattle.splice.specs.Splicing.{then}
 use Rattle.lines.proofs.put_refusal.Goals as goal
 
 pub returns : goal.returns
-returns c = (then c.put_labelled-first.ensures.spliced c.put_labelled.ensures.spliced (omega arith), omega arith)
+returns c = record { spliced = then c.put_labelled-first.ensures.spliced c.put_labelled.ensures.spliced (omega arith); upper_bound = omega arith }

@@ -13,4 +13,4 @@ returns c =
     let short = length-take 3 (drop 1 t) in
     let word = same_bytes (three t c.least-start.result c.least-end.result c.least-start.ensures.2 c.least-end.ensures.2) c.put.ensures in
     let bound : c.put.result ≤ c.args.at + 4 = omega (arith, word.place, short) in
-    (then c.put-blank.ensures word (omega arith), bound)
+    record { spliced = then c.put-blank.ensures word (omega arith); upper_bound = bound }

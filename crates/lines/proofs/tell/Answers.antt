@@ -14,7 +14,7 @@ unfolding if_read
 returns-in-Read c =
     let a = c.args in
     let e : verdict a.text.now ≡ Read = sym c.judge-verdict.ensures ∙ c.in-Read.is in
-    let both = then c.put_number-number.ensures.spliced c.put_type-word.ensures.spliced (omega (arith, (goal.at.returns-in-Read c).After-d-in-Read-1)) in
+    let both = then c.put_number-number.ensures.spliced c.put_type-word.ensures.spliced (omega arith) in
     record {
       wrote = same_bytes (line_read a.k a.text.now e) (then both c.put-next.ensures (omega arith));
       room = omega arith;
@@ -25,11 +25,10 @@ pub returns-in-Refused : goal.returns-in-Refused
 unfolding if_read
 returns-in-Refused c =
     let a = c.args in
-    let v = c.verdict-1.given.0 in
-    let e : verdict a.text.now ≡ Refused v.0 v.1.0 = sym c.judge-verdict.ensures ∙ c.in-Refused.is in
-    let both = then c.put_number-number.ensures.spliced c.put_refusal-word.ensures.spliced (omega (arith, (goal.at.returns-in-Refused c).After-d-in-Refused-1)) in
+    let e : verdict a.text.now ≡ Refused c.in-Refused.place c.in-Refused.hyphens = sym c.judge-verdict.ensures ∙ c.in-Refused.is in
+    let both = then c.put_number-number.ensures.spliced c.put_refusal-word.ensures.spliced (omega arith) in
     record {
-      wrote = same_bytes (line_refused a.k a.text.now v.0 v.1.0 e) (then both c.put-next-in-Refused.ensures (omega arith));
+      wrote = same_bytes (line_refused a.k a.text.now c.in-Refused.place c.in-Refused.hyphens e) (then both c.put-next-in-Refused.ensures (omega arith));
       room = omega arith;
       told = sym (ap if_read e);
     }

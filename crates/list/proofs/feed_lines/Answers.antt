@@ -47,8 +47,8 @@ pub loop-taken-preserved : goal.loop-taken-preserved
 loop-taken-preserved c =
     let t = c.tell_whole-told in
     let f = free (goal.at.loop-taken-preserved c).Else-lines-out in
-    going_line c.loop-taken.invariant c.line_end.result c.line_end.ensures t.new.1.1.1.0 t.new.0 t.result.next t.result.read
-    (omega (arith, ends_within (goal.at.loop-taken-preserved c).After-line_end, c.if-end-piece.false)) f.0 t.ensures f.1 t.auto.0
+    going_line c.loop-taken.invariant c.line_end.result c.line_end.ensures t.new.line t.new.d t.result.next t.result.read
+    (omega (arith, ends_within (goal.at.loop-taken-preserved c).After-line_end, c.if-end-piece.false)) f.0 t.ensures f.1 t.auto.d
 
 pub returns : goal.returns
 returns c =

@@ -61,19 +61,19 @@ pub overflow_add-lines : goal.overflow_add-lines
 overflow_add-lines c = omega (arith, sound_here (goal.at.overflow_add-lines c).Else-not-sound)
 
 pub tell_whole-told-requires : goal.tell_whole-told-requires
-tell_whole-told-requires c = omega (arith, sound_here (goal.at.tell_whole-told-requires c).Else-out-lt-ROOM)
+tell_whole-told-requires c = omega (arith, sound_here (goal.at.tell_whole-told-requires c).Else-not-sound)
 
 pub overflow_add-good : goal.overflow_add-good
-overflow_add-good c = omega (arith, sound_here (goal.at.overflow_add-good c).Else-out-lt-ROOM, one (goal.at.overflow_add-good c).After-struct_known-1)
+overflow_add-good c = omega (arith, sound_here (goal.at.overflow_add-good c).Else-not-sound, one (goal.at.overflow_add-good c).After-struct_known-1)
 
 pub overflow_add-lines-2 : goal.overflow_add-lines-2
-overflow_add-lines-2 c = omega (arith, sound_here (goal.at.overflow_add-lines-2 c).Else-out-lt-ROOM)
+overflow_add-lines-2 c = omega (arith, sound_here (goal.at.overflow_add-lines-2 c).Else-not-sound)
 
 pub overflow_add-lines-3 : goal.overflow_add-lines-3
-overflow_add-lines-3 c = omega (arith, sound_here (goal.at.overflow_add-lines-3 c).Else-out-lt-ROOM)
+overflow_add-lines-3 c = omega (arith, sound_here (goal.at.overflow_add-lines-3 c).Else-not-sound)
 
 pub overflow_sub-lines-2 : goal.overflow_sub-lines-2
-overflow_sub-lines-2 c = omega (arith, sound_here (goal.at.overflow_sub-lines-2 c).Else-out-lt-ROOM, one (goal.at.overflow_sub-lines-2 c).After-struct_known-1)
+overflow_sub-lines-2 c = omega (arith, sound_here (goal.at.overflow_sub-lines-2 c).Else-not-sound, one (goal.at.overflow_sub-lines-2 c).After-struct_known-1)
 
 pub put_totals-requires-2 : goal.put_totals-requires-2
 put_totals-requires-2 c = omega (arith, c.tell_whole-told.ensures.room)

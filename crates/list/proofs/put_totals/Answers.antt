@@ -7,13 +7,13 @@ use Rattle.list.proofs.put_totals.Goals as goal
 
 pub returns : goal.returns
 unfolding totals
-returns c = (
-  then
+returns c = record {
+  spliced = then
       (then
-      (then c.put_labelled-a.ensures.spliced c.put_labelled-b.ensures.spliced (omega (arith, (goal.at.returns c).After-slice_known-3-1)))
+      (then c.put_labelled-a.ensures.spliced c.put_labelled-b.ensures.spliced (omega arith))
       c.put_labelled-c.ensures.spliced
-      (omega (arith, (goal.at.returns c).After-d-3-1)))
+      (omega arith))
       c.put.ensures
-      (omega arith),
-  omega arith,
-)
+      (omega arith);
+  upper_bound = omega arith;
+}

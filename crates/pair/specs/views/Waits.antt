@@ -6,7 +6,7 @@ use Rattle.std.proofs.Math.Bool.{cond}
 use Rattle.std.proofs.Math.Option.{Option, none, some}
 use mathlib.Core.List.{List, [], ◌∷◌}
 use Prim.Native.Nat.{ℕ, zero, suc, ◌+◌, ◌<◌}
-use Rattle.pair.specs.kinds.Tools.{get_below, upd, upd_same, upd_other, same?, true_false, none_some, some_inj, free_none as is_free}
+use Rattle.pair.specs.kinds.Tools.{get_below, upd, upd_same, upd_other, same?, true_false, none_some, some_inj, free_none as none_where_free}
 use Rattle.scan.specs.Bools.{neither}
 use Rattle.places.specs.declared.Place.{Place}
 use Rattle.places.specs.declared.Place.TheVariants.{At, Nowhere}
@@ -94,7 +94,7 @@ free_below : {A : Type 0} (l : Places A) (i : ℕ) → lowest_free l ≡ At i �
 free_below l i e = let h : i < 0 + length l = found_below is_free 0 i l e in omega arith
 
 free_none : {A : Type 0} (l : Places A) (i : ℕ) → lowest_free l ≡ At i → get i l ≡ none
-free_none l i e = is_free (get i l) (found_has is_free i l e)
+free_none l i e = none_where_free (get i l) (found_has is_free i l e)
 
 -- THE NUMBER OF ONE PLACE ALONE
 

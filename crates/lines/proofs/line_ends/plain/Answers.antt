@@ -1,7 +1,6 @@
 use borrow.Author.Rules.{rules}
 use borrow.Author.Tests.{eqb-true}
 use mathlib.Core.Path.{◌≡◌, refl, sym, ap, ◌∙◌}
-use mathlib.Core.Logic.{⊎_elim}
 use mathlib.Core.Bool.{true}
 use Prim.Native.Nat.{◌≤◌, ◌-◌}
 use native.Mathlib.Omega.{arith}
@@ -10,6 +9,7 @@ use lib.Seq.{take_all}
 use Rattle.lines.specs.Feeds.{feedless}
 use Rattle.lines.proofs.Feeding.{feedless_more}
 use Rattle.lines.proofs.line_ends.plain.Goals as goal
+use Rattle.lines.proofs.line_ends.plain.Goals.{then-s-i-eq10, else-s-i-eq10}
 
 pub loop-i-init : goal.loop-i-init
 unfolding feedless
@@ -20,9 +20,10 @@ loop-i-preserved c =
     let l = c.loop-i in
     let s = c.args.s.now in (
       omega arith,
-      λ e. ⊎_elim (λ w. absurd (omega (arith, w.1)))
-          (λ w. feedless_more s l.i c.loop-i-test.true w.0.left (l.invariant.1 (sym w.1 ∙ e)))
-          c.if-s-i-eq10.branch,
+      λ e. elim c.if-s-i-eq10.branch [
+        then-s-i-eq10 w ↦ absurd (omega (arith, w.feeds-is)) |
+        else-s-i-eq10 w ↦ feedless_more s l.i c.loop-i-test.true w.if-s-i-eq10.false (l.invariant.1 (sym w.feeds-is ∙ e))
+      ],
     )
 
 pub returns : goal.returns
