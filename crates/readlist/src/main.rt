@@ -1,17 +1,20 @@
-// Lists the texts of standard input, a line for each, and the totals. A program has no exit status, so it is said on
-// descriptor 3, where that is open, that all of the input was judged and all of the listing written.
-use libc::{STDIN_FILENO, STDOUT_FILENO};
+// Lists the texts of standard input, a line for each, and the totals. It ends with status 0 only where all of the input
+// was judged and all of the listing written.
+#![tactic(auto)]
+
 use list::{KEPT, Tally};
+use std::io;
+use std::io::Read;
 
-const REPORT: i32 = 3;
+// What is read at once, and what is written at once.
+const BUFFER: usize = 65536;
 
-// What became of the input, or of the output.
+// What became of the input.
 #[derive(Clone, Copy)]
 enum Next {
     More,
     Ended,
-    Failed,
-    Unwritten,
+    Failed(io::Error),
 }
 
 #[derive(Clone, Copy)]
@@ -20,8 +23,14 @@ struct Turn {
     next: Next,
 }
 
-// Lists a piece of the input, in as many steps as out needs.
-fn list_piece(tally: Tally, line: &mut [u8; KEPT], piece: &[u8], out: &mut [u8]) -> Turn {
+// Lists a piece of the input, in as many steps as out needs. The error is that of a write that failed.
+fn list_piece(
+    rt: &impl Print,
+    tally: Tally,
+    line: &mut [u8; KEPT],
+    piece: &[u8],
+    out: &mut [u8],
+) -> io::Result<Turn> {
     let mut tally = tally;
     let mut at = 0;
     while at < piece.len() {
@@ -29,85 +38,76 @@ fn list_piece(tally: Tally, line: &mut [u8; KEPT], piece: &[u8], out: &mut [u8])
         let taken = step.taken;
         let written = step.written;
         tally = step.tally;
-        if !io::write_all(STDOUT_FILENO, &out[..written]) {
-            return Turn {
-                tally,
-                next: Next::Unwritten,
-            };
-        }
+        rt.write_all(&out[..written])?;
         if taken == 0 {
-            return Turn {
-                tally,
-                next: Next::Failed,
-            };
+            let next = Next::Failed(io::Error::other("more lines than are counted"));
+            return Ok(Turn { tally, next });
         }
         at += taken;
     }
-    Turn {
-        tally,
-        next: Next::More,
-    }
+    let next = Next::More;
+    Ok(Turn { tally, next })
 }
 
 // Reads once, and lists what came.
-fn read_piece(tally: Tally, line: &mut [u8; KEPT], input: &mut [u8], out: &mut [u8]) -> Turn {
-    let got = libc::read(STDIN_FILENO, input);
-    if got < 0 {
-        return Turn {
-            tally,
-            next: Next::Failed,
-        };
+fn read_piece(
+    rt: &impl Print,
+    input: &mut impl Read,
+    tally: Tally,
+    line: &mut [u8; KEPT],
+    piece: &mut [u8],
+    out: &mut [u8],
+) -> io::Result<Turn> {
+    match input.read(piece) {
+        Err(e) => {
+            let next = Next::Failed(e);
+            Ok(Turn { tally, next })
+        }
+        Ok(0) => {
+            let next = Next::Ended;
+            Ok(Turn { tally, next })
+        }
+        Ok(n) => list_piece(rt, tally, line, &piece[..n], out),
     }
-    if got == 0 {
-        return Turn {
-            tally,
-            next: Next::Ended,
-        };
-    }
-    let n = io::count(got, &input[..]);
-    list_piece(tally, line, &input[..n], out)
 }
 
-// A proved loop has to end, and nothing says that the input does. So the turns count down, from a number that no run
+// A proved loop has to end, and nothing says that the input does. So the turns are counted, up to a number that no run
 // uses up; if one did, the input would count as broken off.
-fn read_all(line: &mut [u8; KEPT], input: &mut [u8], out: &mut [u8]) -> Turn {
+fn read_all(
+    rt: &impl Print,
+    input: &mut impl Read,
+    line: &mut [u8; KEPT],
+    piece: &mut [u8],
+    out: &mut [u8],
+) -> io::Result<Turn> {
     let mut tally = list::start();
-    let mut turns = u64::MAX;
-    while turns > 0 {
-        let turn = read_piece(tally, line, input, out);
+    for _ in 0..u64::MAX {
+        let turn = read_piece(rt, input, tally, line, piece, out)?;
         tally = turn.tally;
-        let next = turn.next;
-        let Next::More = next else {
-            return turn;
+        let Next::More = turn.next else {
+            return Ok(turn);
         };
-        turns -= 1;
     }
-    Turn {
-        tally,
-        next: Next::Failed,
-    }
+    let next = Next::Failed(io::Error::other("more pieces than are counted"));
+    Ok(Turn { tally, next })
 }
 
 // Reads standard input to its end and writes its listing to standard output.
-fn main() {
+fn main(rt: HostRuntime) -> io::Result<()> {
     let mut line = [0u8; KEPT];
-    let mut input = io::large_buffer();
-    let mut out = io::large_buffer();
-    let turn = read_all(&mut line, &mut input, &mut out);
+    let mut piece = [0u8; BUFFER];
+    let mut out = [0u8; BUFFER];
+    let turn = read_all(&rt, &mut rt.stdin(), &mut line, &mut piece, &mut out)?;
     let tally = turn.tally;
-    let next = turn.next;
-    match next {
-        Next::Ended => {
-            let n = list::finish(tally, &mut line, &mut out);
-            if io::write_all(STDOUT_FILENO, &out[..n]) {
-                io::write_all(REPORT, b"done\n");
-            }
-        }
-        Next::Unwritten => {}
-        Next::Failed => {
+    match turn.next {
+        Next::Failed(e) => {
             let n = list::broke(tally, &mut out);
-            io::write_all(STDOUT_FILENO, &out[..n]);
+            rt.write_all(&out[..n])?;
+            Err(e)
         }
-        Next::More => {}
+        _ => {
+            let n = list::finish(tally, &mut line, &mut out);
+            rt.write_all(&out[..n])
+        }
     }
 }
