@@ -1,5 +1,5 @@
 -- In what order the parts of any message stand: all ten types have their fields in one order, and differ in which they have.
-use Rattle.std.specs.Prelude.{◌≡◌, refl, ◌⊎◌, List, [], ◌∷◌, ◌++◌, ℕ}
+use Rattle.std.specs.Prelude.{◌≡◌, refl, List, [], ◌∷◌, ◌++◌, ℕ}
 use Rattle.std.proofs.Common.{sym, ap, ◌∙◌, subst, inl, inr, ⊎_elim, append_assoc, append-nil}
 use Rattle.scan.specs.Grammar.{G, eps, run, alt, part, field}
 use Rattle.scan.specs.declared.Class.TheVariants.{Digit}

@@ -13,7 +13,7 @@ use Rattle.message.specs.declared.Kind.TheVariants.{None, Fpl, Cpl, Est, Chg, Cn
 use Rattle.message.specs.declared.Verdict.TheVariants.{Read}
 use Rattle.message.specs.declared.Record.{Record}
 use Rattle.reader.specs.Reading.{cut, Judged, cut_none}
-use Rattle.reader.specs.Reader.{words_within}
+use Rattle.reader.proofs.Judging.{words_within}
 use Rattle.places.specs.Bytes.{same, number_at}
 use Rattle.flights.specs.Flight as f
 use Rattle.flights.specs.Flight.{Flight, filed, active, offered, accepted, status_of, handoff_of, flight_of}

@@ -4,7 +4,8 @@ use Rattle.std.proofs.Common.{subst}
 use Rattle.scan.specs.Scanner.{run_at, run_scan, words_at, words_scan, longer, leads, among, occurs, between, span_by, between16}
 use Rattle.types.specs.Messages.{message_rules}
 use Rattle.reader.specs.Reading.{hyphens}
-use Rattle.reader.specs.Reader.{verdict, Ruled, verdict_right}
+use Rattle.reader.specs.Reader.{verdict, Ruled}
+use Rattle.reader.proofs.Judging.{verdict_right}
 use Rattle.message.specs.Record.{kind_of, figure}
 use Rattle.head.specs.Head.{standing_at, standing}
 use Rattle.places.specs.Bytes.{same}

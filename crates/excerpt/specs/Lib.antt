@@ -1,6 +1,5 @@
 pub mod Excerpt
 pub mod Pieces
 pub mod Said
-pub mod Fitting
 pub mod ByKind
 pub mod Sizes

@@ -1,5 +1,5 @@
 -- What the check of a record decides.
-use Rattle.std.specs.Prelude.{◌≡◌, refl, Bool, ℕ, ◌+◌, ◌≤◌, ◌<◌, length, get_or, take, drop, replicate, eqb}
+use Rattle.std.specs.Prelude.{◌≡◌, refl, Bool, ℕ, ◌≤◌, ◌<◌, length, get_or, take, drop, replicate, eqb}
 use Rattle.std.proofs.Common.{sym, ap, ◌∙◌, subst, arith, take-append-drop, length-drop, drop-drop, eqb-true}
 use mathlib.Core.List.{List, [], ◌∷◌, ◌++◌, nil≢cons}
 use Rattle.std.proofs.Math.Seq.{drop-append_seam}

@@ -1,5 +1,5 @@
 -- Whether a record is that of a flight, by its status.
-use Rattle.std.specs.Prelude.{◌≡◌, refl, ◌⊎◌, Bool, false, List, ℕ, zero, suc, ◌-◌, ◌≤◌, length, get_or, take, drop, replicate}
+use Rattle.std.specs.Prelude.{◌≡◌, refl, Bool, false, List, ℕ, zero, suc, ◌-◌, ◌≤◌, length, get_or, take, drop, replicate}
 use Rattle.std.proofs.Math.Path.{sym, ap, subst}
 use Rattle.std.proofs.Common.{◌∙◌, inl, inr, ⊎_elim, arith, length-append, length-drop, take_all}
 use Rattle.std.proofs.lemmas.Bool.{false≢true}

@@ -1,5 +1,5 @@
 -- A FLIGHT AND ITS RECORD of 768 bytes, by document 01's "Records".
-use Rattle.std.specs.Prelude.{◌≡◌, ◌⊎◌, cond, List, [], ◌∷◌, ◌++◌, ℕ, ◌+◌, ◌≤◌, get_or, replicate, eqb}
+use Rattle.std.specs.Prelude.{◌≡◌, ◌⊎◌, cond, List, [], ◌∷◌, ◌++◌, ℕ, ◌≤◌, get_or, replicate, eqb}
 use Rattle.scan.specs.declared.Class.TheVariants.{Letter, Octal, Alnum}
 use Rattle.scan.specs.Grammar.{run, Derives}
 use Rattle.scan.specs.Texts.{opt}

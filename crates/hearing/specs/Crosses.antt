@@ -13,7 +13,8 @@ use Rattle.message.specs.declared.Verdict.TheVariants.{Read}
 use Rattle.message.specs.declared.Kind.TheVariants.{Rla}
 use Rattle.message.specs.declared.Record.{Record}
 use Rattle.reader.specs.Reading.{Judged}
-use Rattle.reader.specs.Reader.{derived_read, one_record}
+use Rattle.reader.specs.Reader.{derived_read}
+use Rattle.reader.proofs.Judging.{one_record}
 use Rattle.head.specs.declared.Head.{Head}
 use Rattle.head.specs.Head.{received as raised_to}
 use Rattle.answers.specs.Given.{forgotten}

@@ -11,7 +11,8 @@ use Rattle.message.specs.declared.Verdict.TheVariants.{Read}
 use Rattle.message.specs.declared.Verdict.{Verdict}
 use Rattle.message.specs.declared.Record.{Record}
 use Rattle.reader.specs.Reading.{Judged}
-use Rattle.reader.specs.Reader.{Ruled, judged_one}
+use Rattle.reader.specs.Reader.{Ruled}
+use Rattle.reader.proofs.Judging.{judged_one}
 use Rattle.head.specs.declared.Head.{Head}
 use Rattle.places.specs.declared.Place.{Place}
 use Rattle.places.specs.declared.Place.TheVariants.{At, Nowhere}

@@ -6,7 +6,7 @@ use Rattle.scan.specs.Grammar.{place_of, size_of, Span}
 use Rattle.message.specs.declared.Record.{Record}
 use Rattle.message.specs.declared.Verdict.{Verdict}
 use Rattle.reader.specs.Reading.{answer_of}
-use Rattle.reader.specs.Reader.{judged_one}
+use Rattle.reader.proofs.Judging.{judged_one}
 use Rattle.writer.specs.declared.Writing.{Writing}
 use Rattle.writer.specs.Writing as w
 use Rattle.writer.specs.Written.{wrote_one}

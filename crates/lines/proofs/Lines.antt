@@ -9,7 +9,8 @@ use lib.Dec.{eqb}
 use lib.ListN.{length, take, drop}
 use lib.Seq.{take-take, take-nil, drop-nil}
 use Rattle.lines.proofs.Feeding.{take_most}
-use Rattle.reader.specs.Reader.{verdict, judged_by_beginning}
+use Rattle.reader.specs.Reader.{verdict}
+use Rattle.reader.proofs.Judging.{judged_by_beginning}
 use Rattle.message.specs.declared.Verdict.{Verdict}
 use Rattle.message.specs.declared.Verdict.TheVariants.{Read, Refused}
 use Rattle.lines.specs.Feeds.{feedless}

@@ -9,7 +9,8 @@ use Rattle.message.specs.declared.Record.{Record}
 use Rattle.message.specs.declared.Verdict.{Verdict}
 use Rattle.message.specs.declared.Verdict.TheVariants.{Read, Refused}
 use Rattle.reader.specs.Reading.{Judged}
-use Rattle.reader.specs.Reader.{verdict, verdict_only}
+use Rattle.reader.specs.Reader.{verdict}
+use Rattle.reader.proofs.Judging.{verdict_only}
 use Rattle.unanswered.specs.Waiting.{is_answer}
 use Rattle.deeds.specs.Message.{Message, message_of}
 use Rattle.memory.specs.End.{Memory, end_of, waiting_in}

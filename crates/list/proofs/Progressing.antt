@@ -6,10 +6,11 @@ use native.Mathlib.Omega.{arith}
 use native.Mathlib.Numerals.{add-one}
 use lib.ListN.{length, take, drop, get_or, length-append, length-take, length-drop}
 use lib.Seq.{length-take-le, take-append-add, take_all, take-add, take-suc, get_or-drop, drop-drop}
-use mathlib.Core.Bool.{Bool, true, false, ◌&&◌, ◌||◌}
+use mathlib.Core.Bool.{Bool, true, false, ◌||◌}
 use lib.Dec.{ltb, eqb}
 use borrow.Author.Tests.{leb-true, le-leb, eqb-true, eqb-false, ltb-false, le-ltb}
-use Rattle.reader.specs.Reader.{verdict, judged_by_beginning}
+use Rattle.reader.specs.Reader.{verdict}
+use Rattle.reader.proofs.Judging.{judged_by_beginning}
 use Rattle.list.specs.declared.Tally.{Tally}
 use Rattle.splice.specs.Splice.{Spliced}
 use Rattle.lines.specs.Feeds.{LineEnd, feedless}

@@ -9,7 +9,8 @@ use Rattle.message.specs.declared.Kind.TheVariants.{None, Fpl, Cpl, Est, Chg, Cn
 use Rattle.message.specs.declared.Record.{Record}
 use Rattle.message.specs.declared.Verdict.TheVariants.{Read}
 use Rattle.reader.specs.Reading.{Judged}
-use Rattle.reader.specs.Reader.{verdict, verdict_only}
+use Rattle.reader.specs.Reader.{verdict}
+use Rattle.reader.proofs.Judging.{verdict_only}
 use Rattle.head.specs.declared.Head.{Head}
 use Rattle.places.specs.declared.Place.{Place}
 use Rattle.places.specs.declared.Place.TheVariants.{At, Nowhere}

@@ -16,7 +16,7 @@ use Rattle.memory.specs.End.{End, Memory, waiting_in, end_of, memory_of}
 use Rattle.memory.specs.Held.{memory_back}
 use Rattle.rules.specs.Replies.{Refusal, refused, done}
 use Rattle.rules.specs.Reads.{message_in}
-use Rattle.rules.specs.Receiving.{directed, waiting_at, receive}
+use Rattle.rules.specs.Receiving.{waiting_at, receive}
 use Rattle.rules.specs.Sending.{send, resend}
 use Rattle.response.specs.Answering.{answer_text}
 use Rattle.rules.specs.Refusals.{receive_numbered, send_numbered, resend_numbered}
@@ -29,7 +29,7 @@ use Rattle.pair.specs.kinds.Views.{View, Sends, Learns, Hears}
 use Rattle.pair.specs.kinds.Ends.{view_of, waits_in}
 use Rattle.pair.specs.exchange.Runs as run
 use Rattle.pair.specs.exchange.Runs.{Script, num, become, grow, tell}
-use Rattle.pair.specs.World.{Copy, Among, here, there, Side, count, InTime, latest, number, given, Asked, text, answer, unwritten, logged, copied, changed, sent, resent, answered}
+use Rattle.pair.specs.World.{Copy, Among, here, there, Side, count, InTime, latest, given, Asked, text, answer, unwritten, logged, copied, changed, sent, resent, answered}
 use Rattle.pair.specs.Texts.{Says, draft_says, send_adds, receive_holds}
 use Rattle.pair.specs.Came.{Gives, came, came_refused}
 use Rattle.pair.specs.Follows.{script, text_newest, Spells, Told, Replies, Kept, end_in, sent_none, resent_none, changed_none, answered_none, next_formed, next_end, mem_told, mem_new}

@@ -11,7 +11,8 @@ use Rattle.message.specs.declared.Record.{Record}
 use Rattle.message.specs.declared.Verdict.TheVariants.{Read}
 use Rattle.message.specs.Record.{figure, kind_of, is_chg, level_kind_of, level_in, form_in, record_of, blank}
 use Rattle.reader.specs.Reading.{Judged}
-use Rattle.reader.specs.Reader.{verdict, verdict_only}
+use Rattle.reader.specs.Reader.{verdict}
+use Rattle.reader.proofs.Judging.{verdict_only}
 use Rattle.places.specs.Bytes.{same, same_is}
 use Rattle.deeds.specs.Message.{Message, message_of}
 use Rattle.rules.specs.Reads.{message_in, read_message}

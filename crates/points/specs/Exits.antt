@@ -1,5 +1,5 @@
 -- Where field 14 stops on the way, it ends there, and the parts behind it are absent.
-use Rattle.std.specs.Prelude.{◌≡◌, true, List, ℕ, ◌≤◌}
+use Rattle.std.specs.Prelude.{◌≡◌, true, List, ℕ}
 use Rattle.std.proofs.Math.Path.{sym, ap}
 use Rattle.std.proofs.Common.{◌∙◌, arith}
 use Rattle.std.proofs.Math.Bool.{false}

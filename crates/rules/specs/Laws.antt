@@ -1,6 +1,6 @@
 -- What the code looks at lies within its text; what a text that is directed to us says; kinds that are no answers; and which
 -- answers are given.
-use Rattle.std.specs.Prelude.{◌≡◌, refl, ◌⊎◌, true, false, ◌||◌, List, ℕ, ◌<◌, eqb, ltb}
+use Rattle.std.specs.Prelude.{◌≡◌, refl, true, false, ◌||◌, List, ℕ, ◌<◌, eqb, ltb}
 use Rattle.std.proofs.Common.{sym, inr, ⊎_elim, arith, eqb-true, ltb-true}
 use Rattle.std.proofs.lemmas.Bool.{false≢true}
 use Rattle.scan.specs.Bools.{or_split}

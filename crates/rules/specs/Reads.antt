@@ -8,7 +8,8 @@ use Rattle.message.specs.declared.Record.{Record}
 use Rattle.message.specs.declared.Verdict.TheVariants.{Read}
 use Rattle.message.specs.Record.{record_by, blank}
 use Rattle.reader.specs.Reading.{hyphens, Judged}
-use Rattle.reader.specs.Reader.{read_judged, refused_judged, derived_read, one_record}
+use Rattle.reader.specs.Reader.{refused_judged, derived_read}
+use Rattle.reader.proofs.Judging.{read_judged, one_record}
 use Rattle.deeds.specs.Message.{Message, message_of}
 use Rattle.scan.specs.Theory.{passed}
 

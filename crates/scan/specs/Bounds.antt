@@ -1,6 +1,6 @@
 -- How far a scan goes, whatever its grammar, and that a text longer than the longest one is judged by its beginning.
 use Rattle.std.specs.Prelude.{◌≡◌, refl, ◌⊎◌, Bool, true, false, cond, ◌&&◌, List, ◌++◌, ℕ, zero, suc, ◌+◌, ◌-◌, ◌%◌, ◌≤◌, ◌<◌, max, length, get_or, take, ltb, eqb}
-use Rattle.std.proofs.Common.{ap, ◌∙◌, inl, inr, ⊎_elim, arith, length-append, length-take, take-take, take_all, length-take-le, ltb-true}
+use Rattle.std.proofs.Common.{ap, inl, inr, ⊎_elim, arith, length-append, length-take, take-take, take_all, length-take-le, ltb-true}
 use Rattle.scan.specs.declared.Scan.{Scan}
 use Rattle.scan.specs.declared.Class.{Class}
 use Rattle.scan.specs.declared.Class.TheVariants.{Word, Byte}

@@ -1,5 +1,5 @@
 -- Whether a place is well formed, test by test.
-use Rattle.std.specs.Prelude.{◌≡◌, refl, ◌⊎◌, Bool, true, false, not, List, [], ◌∷◌, ◌++◌, ℕ, ◌+◌, ◌-◌, ◌≤◌, ◌<◌, length, get_or, take, drop, replicate}
+use Rattle.std.specs.Prelude.{◌≡◌, refl, Bool, true, false, not, List, [], ◌∷◌, ◌++◌, ℕ, ◌+◌, ◌-◌, ◌≤◌, ◌<◌, length, get_or, take, drop, replicate}
 use Rattle.std.proofs.Common.{sym, ap, ◌∙◌, subst, inr, ⊎_elim, arith, take-append-drop, length-drop, length-take-le, drop-drop, take_all}
 use Rattle.std.proofs.lemmas.Bool.{false≢true, not-true}
 use Rattle.std.proofs.Math.Seq.{drop-append_seam}
@@ -11,7 +11,7 @@ use Rattle.message.specs.declared.Verdict.{Verdict}
 use Rattle.message.specs.declared.Verdict.TheVariants.{Read, Refused}
 use Rattle.message.specs.declared.Record.{Record}
 use Rattle.reader.specs.Reading.{Judged, cut}
-use Rattle.reader.specs.Reader.{judged_one, words_within}
+use Rattle.reader.proofs.Judging.{judged_one, words_within}
 use Rattle.places.specs.Bytes.{high, low, number_at, high_of, low_of, two_bytes, each, stretch_is, free}
 use Rattle.unanswered.specs.declared.Shown.TheVariants.{Broken, Empty, Message}
 use Rattle.unanswered.specs.Waiting.{Waiting, waiting, waiting_bytes, waiting_of, is_answer, Proper, WellFormed, Shows}

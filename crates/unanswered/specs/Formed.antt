@@ -1,5 +1,5 @@
 -- The 16 places, one after the other.
-use Rattle.std.specs.Prelude.{◌≡◌, refl, ◌⊎◌, Bool, true, false, not, ◌&&◌, List, ℕ, ◌+◌, ◌-◌, ◌*◌, ◌≤◌, ◌<◌, length, take, drop, get_or, eqb}
+use Rattle.std.specs.Prelude.{◌≡◌, refl, Bool, true, false, not, ◌&&◌, List, ℕ, ◌+◌, ◌-◌, ◌*◌, ◌≤◌, ◌<◌, length, take, drop, get_or, eqb}
 use Rattle.std.proofs.Common.{sym, ap, ◌∙◌, subst, inl, ⊎_elim, add-zero, arith, length-drop, get_or-take, get_or-drop, length-take-le}
 use Rattle.std.proofs.lemmas.Bool.{false≢true, not-true}
 use Rattle.scan.specs.Bools.{known, Decides, decides_as, equals}

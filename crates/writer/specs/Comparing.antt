@@ -1,5 +1,5 @@
 -- How two records are held against each other.
-use Rattle.std.specs.Prelude.{◌≡◌, refl, ◌⊎◌, Bool, false, ◌&&◌, ℕ}
+use Rattle.std.specs.Prelude.{◌≡◌, refl, Bool, false, ◌&&◌, ℕ}
 use Rattle.std.proofs.Math.Path.{sym, subst}
 use Rattle.std.proofs.Common.{ap, ◌∙◌, eqb-true, eq-eqb}
 use Rattle.std.proofs.Math.Logic.{⊎_elim}
@@ -20,7 +20,8 @@ use Rattle.message.specs.declared.Figures.{Figures}
 use Rattle.message.specs.declared.Record.{Record}
 use Rattle.message.specs.declared.Verdict.TheVariants.{Read, Refused}
 use Rattle.reader.specs.Reading.{Judged}
-use Rattle.reader.specs.Reader.{one_record, derived_read}
+use Rattle.reader.specs.Reader.{derived_read}
+use Rattle.reader.proofs.Judging.{one_record}
 use Rattle.pen.specs.Listed.{number_parts, plan_parts, rest_parts, parts_in}
 use Rattle.compose.specs.Composed.{sizes}
 use Rattle.compose.specs.Recorded.{part_names, listed, nameless}

@@ -16,7 +16,7 @@ use Rattle.message.specs.declared.Record.{Record}
 use Rattle.message.specs.declared.Verdict.TheVariants.{Read}
 use Rattle.message.specs.Record.{kind_of}
 use Rattle.reader.specs.Reading.{cut, Judged}
-use Rattle.reader.specs.Reader.{one_record}
+use Rattle.reader.proofs.Judging.{one_record}
 use Rattle.compose.specs.Layout.{Told, Tells, find, text_is, parts_are}
 use Rattle.pen.specs.Listed.{span_of, Inside}
 use Rattle.compose.specs.Composed.{order_of, sizes, bytes_in, composed}

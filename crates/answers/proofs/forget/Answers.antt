@@ -1,5 +1,4 @@
 -- `answers::forget` meets its contract.
-use borrow.Author.Rules.{rules}
 use Rattle.answers.specs.Forgetting.{forgot_up, forgot_round}
 use Rattle.answers.proofs.forget.Goals as goal
 

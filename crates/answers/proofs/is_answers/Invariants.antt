@@ -1,14 +1,11 @@
 -- `answers::is_answers` meets its contract.
-use borrow.Author.Rules.{rules}
-use mathlib.Core.Path.{◌≡◌, subst}
+use mathlib.Core.Path.{◌≡◌}
 use mathlib.Core.Bool.{true}
-use Prim.Native.Nat.{ℕ, ◌≤◌, ◌-◌}
-use native.Mathlib.Omega.{arith}
+use Prim.Native.Nat.{◌≤◌, ◌-◌}
 use lib.ListN.{get_or}
 use Rattle.scan.specs.Bools.{Decides}
-use Rattle.places.specs.Below.{Below, none_below, one_more}
+use Rattle.places.specs.Below.{Below}
 use Rattle.answers.specs.Given.{is_value}
-use Rattle.answers.specs.Forgetting.{value_is, wrong_length, answers_are}
 use Rattle.answers.proofs.is_answers.Given as goal
 
 abbrev pub invariant-loop-i : goal.invariant-loop-i

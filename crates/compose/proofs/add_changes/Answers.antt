@@ -1,5 +1,4 @@
 -- `compose::add_changes` meets its contract.
-use borrow.Author.Rules.{rules}
 use mathlib.Core.List.{[], ◌∷◌}
 use Rattle.pen.specs.Laying.{then, pair_both}
 use Rattle.compose.proofs.add_changes.Goals as goal

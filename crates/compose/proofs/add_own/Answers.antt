@@ -1,5 +1,4 @@
 -- `compose::add_own` meets its contract.
-use borrow.Author.Rules.{rules}
 use Rattle.pen.specs.Laying.{then}
 use Rattle.compose.proofs.add_own.Goals as goal
 

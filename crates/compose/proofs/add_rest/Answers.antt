@@ -1,5 +1,4 @@
 -- `compose::add_rest` meets its contract.
-use borrow.Author.Rules.{rules}
 use Rattle.pen.specs.Laying.{then}
 use Rattle.compose.proofs.add_rest.Goals as goal
 

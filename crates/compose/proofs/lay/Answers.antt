@@ -1,5 +1,4 @@
 -- `compose::lay` meets its contract.
-use borrow.Author.Rules.{rules}
 use Rattle.pen.specs.Laying.{then}
 use Rattle.compose.proofs.lay.Goals as goal
 

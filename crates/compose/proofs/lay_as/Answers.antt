@@ -1,5 +1,4 @@
 -- `compose::lay_as` meets its contract.
-use borrow.Author.Rules.{rules}
 use Rattle.pen.specs.Laying.{then}
 use Rattle.compose.proofs.lay_as.Goals as goal
 

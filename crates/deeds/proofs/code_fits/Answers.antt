@@ -1,5 +1,4 @@
 -- `deeds::code_fits` meets its contract.
-use borrow.Author.Rules.{rules}
 use mathlib.Core.Path.{◌∙◌}
 use Rattle.flights.specs.Flight.{flight_of}
 use Rattle.deeds.specs.Laws.{same_on, code_in, no_code, code_given}

@@ -1,5 +1,4 @@
 -- `deeds::decide` meets its contract.
-use borrow.Author.Rules.{rules}
 use mathlib.Core.Path.{◌∙◌}
 use mathlib.Core.Bool.{true, false}
 use Rattle.deeds.specs.Message.{message_of}

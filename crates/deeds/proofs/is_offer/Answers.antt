@@ -1,5 +1,4 @@
 -- `deeds::is_offer` meets its contract.
-use borrow.Author.Rules.{rules}
 use mathlib.Core.Bool.{◌&&◌}
 use lib.ListN.{get_or}
 use lib.Dec.{eqb}

@@ -1,5 +1,4 @@
 -- `deeds::new_place` meets its contract.
-use borrow.Author.Rules.{rules}
 use Rattle.deeds.specs.Deciding.{new_at}
 use Rattle.deeds.proofs.new_place.Goals as goal
 

@@ -1,5 +1,4 @@
 -- `deeds::refers` meets its contract.
-use borrow.Author.Rules.{rules}
 use mathlib.Core.Bool.{◌&&◌}
 use lib.Dec.{eqb}
 use Rattle.deeds.proofs.refers.Goals as goal

@@ -1,12 +1,11 @@
 -- `excerpt::rest_16` meets its contract.
-use borrow.Author.Rules.{rules}
 use mathlib.Core.Path.{ap}
 use mathlib.Core.List.{List, [], ◌++◌, append-nil}
 use Prim.Native.Nat.{ℕ}
 use native.Mathlib.Omega.{arith}
 use Rattle.pen.specs.Laying.{led_by, text_alternates, then}
 use Rattle.excerpt.specs.Excerpt.{texts_of}
-use Rattle.excerpt.specs.Fitting.{stretch, starts}
+use Rattle.excerpt.proofs.Fitting.{stretch, starts}
 use Rattle.changes.specs.Found.{plan_spans}
 use Rattle.excerpt.proofs.rest_16.Goals as goal
 

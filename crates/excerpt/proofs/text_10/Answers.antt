@@ -1,9 +1,8 @@
 -- `excerpt::text_10` meets its contract.
-use borrow.Author.Rules.{rules}
 use mathlib.Core.List.{append-nil}
 use native.Mathlib.Omega.{arith}
 use Rattle.excerpt.specs.Excerpt.{texts_of}
-use Rattle.excerpt.specs.Fitting.{stretch, starts}
+use Rattle.excerpt.proofs.Fitting.{stretch, starts}
 use Rattle.changes.specs.Found.{plan_spans}
 use Rattle.excerpt.proofs.text_10.Goals as goal
 

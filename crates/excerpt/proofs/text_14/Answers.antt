@@ -1,9 +1,8 @@
 -- `excerpt::text_14` meets its contract.
-use borrow.Author.Rules.{rules}
 use mathlib.Core.List.{append-nil}
 use native.Mathlib.Omega.{arith}
 use Rattle.excerpt.specs.Excerpt.{field14_of}
-use Rattle.excerpt.specs.Fitting.{starts}
+use Rattle.excerpt.proofs.Fitting.{starts}
 use Rattle.excerpt.proofs.text_14.Goals as goal
 
 pub returns : goal.returns

@@ -1,4 +1,3 @@
-use borrow.Author.Rules.{rules}
 use mathlib.Core.Path.{ap, ◌∙◌}
 use Rattle.scan.specs.declared.Class.TheVariants.{Range}
 use Rattle.scan.specs.Scanner.{scan}

@@ -1,5 +1,4 @@
 -- `flights::begin` meets its contract: the bytes at the front, the blanks and the zeros were written one behind the other.
-use borrow.Author.Rules.{rules}
 use native.Mathlib.Omega.{arith}
 use Rattle.splice.specs.Splicing.{then}
 use Rattle.flights.proofs.begin.Goals as goal

@@ -1,5 +1,4 @@
 -- `flights::set_byte` meets its contract.
-use borrow.Author.Rules.{rules}
 use native.Mathlib.Omega.{arith}
 use Prim.Native.Nat.{◌+◌, ◌*◌}
 use Rattle.splice.specs.Inside.{set_splice}

@@ -1,5 +1,4 @@
 -- `flights::set_text` meets its contract: the text was written, and the blanks right behind it.
-use borrow.Author.Rules.{rules}
 use Prim.Native.Nat.{ℕ, ◌-◌}
 use native.Mathlib.Omega.{arith}
 use lib.ListN.{length, length-replicate}

@@ -1,13 +1,8 @@
 -- `flights::text_length` meets its contract: what was passed are blanks.
-use borrow.Author.Rules.{rules}
-use mathlib.Core.Path.{◌≡◌, sym, ap, ◌∙◌}
-use borrow.Author.Tests.{not-false}
+use mathlib.Core.Path.{◌≡◌}
 use Prim.Native.Nat.{◌≤◌}
-use native.Mathlib.Omega.{arith}
 use lib.ListN.{length, take}
-use lib.Seq.{take-length}
 use Rattle.flights.specs.Padding.{trimmed}
-use Rattle.flights.specs.Trimming.{passed_blanks, passed_blank, stopped, none_left}
 use Rattle.flights.proofs.text_length.Given as goal
 
 abbrev pub invariant-loop-n : goal.invariant-loop-n

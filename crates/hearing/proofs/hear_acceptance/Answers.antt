@@ -1,5 +1,4 @@
 -- `hearing::hear_acceptance` meets its contract.
-use borrow.Author.Rules.{rules}
 use mathlib.Core.List.{List}
 use Prim.Native.Nat.{ℕ}
 use mathlib.Core.Path.{refl, sym, subst, ◌∙◌}

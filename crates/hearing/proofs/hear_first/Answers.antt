@@ -1,5 +1,4 @@
 -- `hearing::hear_first` meets its contract.
-use borrow.Author.Rules.{rules}
 use mathlib.Core.Path.{sym, ap, ◌∙◌}
 use Rattle.deeds.specs.Message.{message_of}
 use Rattle.rules.specs.Answers.{is_acceptance}

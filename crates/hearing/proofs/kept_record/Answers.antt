@@ -1,5 +1,4 @@
 -- `hearing::kept_record` meets its contract.
-use borrow.Author.Rules.{rules}
 use mathlib.Core.Path.{subst}
 use Rattle.message.specs.declared.Verdict.{Verdict}
 use Rattle.reader.specs.Reading.{Judged}

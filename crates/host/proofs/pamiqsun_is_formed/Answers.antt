@@ -1,5 +1,4 @@
 -- `host::pamiqsun_is_formed` meets its contract.
-use borrow.Author.Rules.{rules}
 use native.Mathlib.Omega.{arith}
 use Rattle.head.specs.declared.Head.{Head}
 use Rattle.memory.specs.End.{lent, Formed}

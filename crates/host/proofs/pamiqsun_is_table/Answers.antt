@@ -1,5 +1,4 @@
 -- `host::pamiqsun_is_table` meets its contract.
-use borrow.Author.Rules.{rules}
 use Rattle.host.specs.Ways.{checked_by}
 use Rattle.host.proofs.pamiqsun_is_table.Goals as goal
 

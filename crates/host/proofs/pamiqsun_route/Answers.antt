@@ -1,5 +1,4 @@
 -- `host::pamiqsun_route` meets its contract.
-use borrow.Author.Rules.{rules}
 use Rattle.reader.specs.Reading.{route}
 use Rattle.host.specs.Ways.{words_read, words_refused}
 use Rattle.host.proofs.pamiqsun_route.Goals as goal

@@ -1,5 +1,4 @@
 -- `host::pamiqsun_write` meets its contract.
-use borrow.Author.Rules.{rules}
 use mathlib.Core.Path.{refl}
 use native.Mathlib.Omega.{arith}
 use Rattle.host.specs.Ways.{wrote_from}

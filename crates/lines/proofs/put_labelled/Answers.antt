@@ -1,5 +1,4 @@
 -- `lines::put_labelled` meets its contract. Assumes nothing.
-use borrow.Author.Rules.{rules}
 use native.Mathlib.Omega.{arith}
 use Rattle.splice.specs.Splicing.{then}
 use Rattle.lines.proofs.put_labelled.Goals as goal

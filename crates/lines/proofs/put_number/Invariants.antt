@@ -1,14 +1,10 @@
 -- `lines::put_number` meets its contract. The invariant: the digits of n are those of rest, and then those that were
 -- written. Assumes nothing.
-use borrow.Author.Rules.{rules}
-use mathlib.Core.Path.{◌≡◌, refl, sym, ◌∙◌}
-use mathlib.Core.List.{◌++◌, append-nil}
-use Prim.Native.Nat.{◌≤◌, ◌<◌, ◌-◌, ◌+◌, ◌^◌}
-use native.Mathlib.Omega.{arith}
-use lib.ListN.{length, take, drop, set, length-set}
+use mathlib.Core.Path.{◌≡◌}
+use mathlib.Core.List.{◌++◌}
+use Prim.Native.Nat.{◌≤◌, ◌<◌, ◌^◌}
+use lib.ListN.{length, drop}
 use Rattle.lines.specs.Numbers.{decimal}
-use Rattle.lines.proofs.Decimals.{digits_more, digits_last, another, twenty}
-use Rattle.splice.specs.Splicing.{same_bytes}
 use Rattle.lines.proofs.put_number.Given as goal
 
 abbrev pub invariant-loop-rest : goal.invariant-loop-rest

@@ -1,5 +1,4 @@
 -- `link::hear` meets its contract.
-use borrow.Author.Rules.{rules}
 use borrow.Author.Tests.{not-true, not-false}
 use Rattle.memory.specs.End.{lent}
 use Rattle.deeds.specs.Message.{message_of}

@@ -1,5 +1,4 @@
 -- `link::receive` meets its contract.
-use borrow.Author.Rules.{rules}
 use borrow.Author.Tests.{not-true, not-false}
 use lib.ListN.{length}
 use Rattle.memory.specs.End.{lent}

@@ -1,5 +1,4 @@
 -- `list::feed` meets its contract. Assumes nothing.
-use borrow.Author.Rules.{rules}
 use mathlib.Core.Path.{refl, sym, ◌∙◌}
 use native.Mathlib.Omega.{arith}
 use Rattle.list.proofs.Progressing.{unsound}

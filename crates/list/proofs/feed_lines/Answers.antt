@@ -1,10 +1,9 @@
-use borrow.Author.Rules.{rules}
-use Prim.Native.Nat.{◌+◌, ◌-◌, ◌≤◌, ◌<◌}
+use Prim.Native.Nat.{◌+◌, ◌≤◌, ◌<◌}
 use native.Mathlib.Omega.{arith}
 use lib.ListN.{length}
 use Rattle.list.specs.Progress.{most_lines, room}
 use Rattle.lines.proofs.Lines.{at_most_one}
-use Rattle.list.proofs.Progressing.{Going, going_start, going_part, going_line, part_within, may_go, must_stop, sound_of}
+use Rattle.list.proofs.Progressing.{going_start, going_part, going_line, part_within, may_go, must_stop, sound_of}
 use Rattle.list.proofs.feed_lines.Goals as goal
 use Rattle.list.proofs.feed_lines.Goals.{After-line_end, After-struct_known-1, Else-lines-out}
 

@@ -1,11 +1,7 @@
 -- `list::feed_lines` meets its contract. The measure is what is left of the piece. Assumes nothing.
-use borrow.Author.Rules.{rules}
-use Prim.Native.Nat.{◌+◌, ◌-◌, ◌≤◌, ◌<◌}
-use native.Mathlib.Omega.{arith}
+use Prim.Native.Nat.{◌-◌}
 use lib.ListN.{length}
-use Rattle.list.specs.Progress.{most_lines, room}
-use Rattle.lines.proofs.Lines.{at_most_one}
-use Rattle.list.proofs.Progressing.{Going, going_start, going_part, going_line, part_within, may_go, must_stop, sound_of}
+use Rattle.list.proofs.Progressing.{Going}
 use Rattle.list.proofs.feed_lines.Given as goal
 
 abbrev pub invariant-loop-taken : goal.invariant-loop-taken

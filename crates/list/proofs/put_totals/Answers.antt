@@ -1,5 +1,4 @@
 -- `list::put_totals` meets its contract. Assumes nothing.
-use borrow.Author.Rules.{rules}
 use native.Mathlib.Omega.{arith}
 use Rattle.lines.specs.Listing.{totals}
 use Rattle.splice.specs.Splicing.{then}

@@ -1,5 +1,4 @@
 -- `memory::is_sound` meets its contract.
-use borrow.Author.Rules.{rules}
 use Rattle.memory.specs.End.{lent}
 use Rattle.memory.specs.Held.{memory_is}
 use Rattle.memory.proofs.is_sound.Goals as goal

@@ -1,5 +1,4 @@
 use mathlib.Core.Path.{sym}
-use borrow.Author.Rules.{rules}
 use Rattle.message.specs.Figures.{get_d_past}
 use Rattle.message.proofs.byte_at.Goals as goal
 

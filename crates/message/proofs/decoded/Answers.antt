@@ -7,12 +7,12 @@ returns-then-plans-point c = plain_figures _ c.args.p _ _ _ _ _ _ _ c.absent.ens
 pub returns : goal.returns
 returns c =
     λ i. record {
-    number = c.number_figure-number.ensures i;
-    reference = c.number_figure-reference.ensures i;
-    own = c.some_figures-own.ensures i;
-    form = c.form_in-form.ensures i;
-    crossing = c.level_in-crossing.ensures i;
-    second = c.level_in-second.ensures i;
-    changes = c.some_figures-changes.ensures i;
-    reason = c.seldom_figure-reason.ensures i;
+      number = c.number_figure-number.ensures i;
+      reference = c.number_figure-reference.ensures i;
+      own = c.some_figures-own.ensures i;
+      form = c.form_in-form.ensures i;
+      crossing = c.level_in-crossing.ensures i;
+      second = c.level_in-second.ensures i;
+      changes = c.some_figures-changes.ensures i;
+      reason = c.seldom_figure-reason.ensures i;
     }

@@ -1,6 +1,5 @@
 use mathlib.Core.Path.{◌≡◌}
 use native.Mathlib.Omega.{arith}
-use borrow.Author.Rules.{rules}
 use Rattle.message.specs.Figures.{figure_1, figure_2, figure_3, figure_4, figure_no}
 use Rattle.message.proofs.figure.Goals as goal
 

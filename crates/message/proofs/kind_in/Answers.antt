@@ -1,5 +1,4 @@
 use mathlib.Core.Path.{ap, ◌∙◌}
-use borrow.Author.Rules.{rules}
 use Rattle.message.specs.Record.{kind_of}
 use Rattle.message.specs.Figures.{short_kind}
 use Rattle.message.proofs.kind_in.Goals as goal

@@ -1,4 +1,3 @@
-use borrow.Author.Rules.{rules}
 use Rattle.message.proofs.number_figure.Goals as goal
 
 pub returns-then-len-eq3 : goal.returns-then-len-eq3

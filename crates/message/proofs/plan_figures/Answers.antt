@@ -1,4 +1,3 @@
-use borrow.Author.Rules.{rules}
 use Rattle.message.proofs.plan_figures.Goals as goal
 
 pub returns : goal.returns

@@ -1,4 +1,3 @@
-use borrow.Author.Rules.{rules}
 use Rattle.message.specs.Figures.{figure_3}
 use Rattle.message.proofs.three.Goals as goal
 

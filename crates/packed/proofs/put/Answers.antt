@@ -1,5 +1,4 @@
 -- `packed::put` meets its contract.
-use borrow.Author.Rules.{rules}
 use native.Mathlib.Omega.{arith}
 use Rattle.packed.specs.Laid.{then, named, whole}
 use Rattle.packed.proofs.put.Goals as goal

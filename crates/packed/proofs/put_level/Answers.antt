@@ -1,5 +1,4 @@
 -- `packed::put_level` meets its contract.
-use borrow.Author.Rules.{rules}
 use native.Mathlib.Omega.{arith}
 use Rattle.packed.specs.Laid.{then, named}
 use Rattle.packed.proofs.put_level.Goals as goal

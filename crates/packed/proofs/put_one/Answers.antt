@@ -1,5 +1,4 @@
 -- `packed::put_one` meets its contract.
-use borrow.Author.Rules.{rules}
 use native.Mathlib.Omega.{arith}
 use lib.ListN.{length-set}
 use Rattle.packed.specs.Laid.{one}

@@ -1,5 +1,4 @@
 -- `packed::put_parts` meets its contract.
-use borrow.Author.Rules.{rules}
 use mathlib.Core.Path.{ap}
 use Rattle.packed.specs.Packed.{span_numbers}
 use Rattle.packed.specs.Laid.{same}

@@ -1,5 +1,4 @@
 -- `packed::put_plan_figures` meets its contract.
-use borrow.Author.Rules.{rules}
 use native.Mathlib.Omega.{arith}
 use Rattle.packed.specs.Laid.{then}
 use Rattle.packed.proofs.put_plan_figures.Goals as goal

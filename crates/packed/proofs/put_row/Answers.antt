@@ -1,9 +1,5 @@
-use borrow.Author.Rules.{rules}
-use Prim.Native.Nat.{◌+◌, ◌*◌, ◌-◌, ◌≤◌}
 use native.Mathlib.Omega.{arith}
-use lib.ListN.{length, take}
-use Rattle.packed.specs.Packed.{span_numbers}
-use Rattle.packed.specs.Laid.{Puts, none, more, all}
+use Rattle.packed.specs.Laid.{none, more, all}
 use Rattle.packed.proofs.put_row.Goals as goal
 
 pub loop-i-preserved : goal.loop-i-preserved

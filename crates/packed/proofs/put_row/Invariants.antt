@@ -1,11 +1,9 @@
 -- `packed::put_row` meets its contract.
 -- the first i parts stand there
-use borrow.Author.Rules.{rules}
 use Prim.Native.Nat.{◌+◌, ◌*◌, ◌-◌, ◌≤◌}
-use native.Mathlib.Omega.{arith}
 use lib.ListN.{length, take}
 use Rattle.packed.specs.Packed.{span_numbers}
-use Rattle.packed.specs.Laid.{Puts, none, more, all}
+use Rattle.packed.specs.Laid.{Puts}
 use Rattle.packed.proofs.put_row.Given as goal
 
 abbrev pub invariant-loop-i : goal.invariant-loop-i

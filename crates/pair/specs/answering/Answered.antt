@@ -19,7 +19,8 @@ use Rattle.message.specs.declared.Record.{Record}
 use Rattle.message.specs.declared.Verdict.TheVariants.{Read}
 use Rattle.message.specs.Record.{figure, figure_at, figure_in}
 use Rattle.reader.specs.Reading.{cut, Judged}
-use Rattle.reader.specs.Reader.{verdict, verdict_only}
+use Rattle.reader.specs.Reader.{verdict}
+use Rattle.reader.proofs.Judging.{verdict_only}
 use Rattle.unanswered.specs.Encoded.{read_short}
 use Rattle.compose.specs.Layout.{laid, told, Tells}
 use Rattle.compose.specs.Order.{same}

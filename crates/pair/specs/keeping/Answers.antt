@@ -1,5 +1,5 @@
 -- THE GIVEN ANSWERS stay well formed: one is given, or some are forgotten.
-use Rattle.std.specs.Prelude.{◌≡◌, refl, Bool, true, false, cond, List, ◌∷◌, ◌++◌, ℕ, ◌+◌, ◌≤◌, get_or, take, drop, set}
+use Rattle.std.specs.Prelude.{◌≡◌, refl, Bool, true, false, cond, List, ◌∷◌, ◌++◌, ℕ, ◌≤◌, get_or, take, drop, set}
 use Rattle.std.proofs.Common.{sym, ap, ◌∙◌, subst, ⊎_elim, add-one, arith, length-set, get_or-set_same, get_or-set_other}
 use Rattle.std.proofs.lemmas.List.{set_split}
 use Rattle.answers.specs.Given.{is_value, AnswersFormed, after, forgotten}

@@ -13,7 +13,8 @@ use Rattle.message.specs.declared.Record.{Record}
 use Rattle.message.specs.declared.Verdict.{Verdict}
 use Rattle.message.specs.declared.Verdict.TheVariants.{Read, Refused}
 use Rattle.reader.specs.Reading.{Judged, cut}
-use Rattle.reader.specs.Reader.{verdict, Ruled, verdict_right}
+use Rattle.reader.specs.Reader.{verdict, Ruled}
+use Rattle.reader.proofs.Judging.{verdict_right}
 use Rattle.head.specs.declared.Standing.{Standing}
 use Rattle.head.specs.declared.Standing.TheVariants.{New, Old, Stale}
 use Rattle.head.specs.Head.{standing}

@@ -1,5 +1,4 @@
 -- `pen::add_led` meets its contract.
-use borrow.Author.Rules.{rules}
 use mathlib.Core.List.{[], ◌∷◌, append-nil}
 use native.Mathlib.Omega.{arith}
 use Rattle.reader.specs.Reading.{cut}

@@ -1,5 +1,4 @@
 -- `pen::add_number` meets its contract.
-use borrow.Author.Rules.{rules}
 use mathlib.Core.List.{append-nil}
 use Rattle.reader.specs.Reading.{cut}
 use Rattle.pen.specs.Laying.{then, alike, text_number}

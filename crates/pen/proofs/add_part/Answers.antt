@@ -1,5 +1,4 @@
 -- `pen::add_part` meets its contract.
-use borrow.Author.Rules.{rules}
 use mathlib.Core.Path.{◌≡◌, refl, ap}
 use mathlib.Core.Logic.{inr}
 use mathlib.Core.List.{[], ◌∷◌, ◌++◌}

@@ -1,8 +1,7 @@
 -- `perform::carry_out` meets its contract.
-use borrow.Author.Rules.{rules}
 use mathlib.Core.Path.{refl}
 use Rattle.excerpt.specs.ByKind.{own_paired}
-use Rattle.excerpt.specs.Fitting.{own_fits, changes_fits, estimate_fits}
+use Rattle.excerpt.proofs.Fitting.{own_fits, changes_fits, estimate_fits}
 use Rattle.flights.specs.Flight as f
 use Rattle.flights.specs.Flight.{filed, accepted}
 use Rattle.flights.specs.Made.{byte_filed, byte_none, byte_accepted}

@@ -1,5 +1,4 @@
 -- `perform::estimate` meets its contract.
-use borrow.Author.Rules.{rules}
 use native.Mathlib.Omega.{arith}
 use Rattle.flights.specs.Flight.{active}
 use Rattle.flights.specs.Made.{byte_active}

@@ -1,5 +1,4 @@
 -- `perform::follow` meets its contract.
-use borrow.Author.Rules.{rules}
 use mathlib.Core.Path.{sym, ap, ◌∙◌}
 use Prim.Native.Nat.{ℕ}
 use Rattle.deeds.specs.Message.{message_of}

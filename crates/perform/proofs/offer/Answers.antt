@@ -1,5 +1,4 @@
 -- `perform::offer` meets its contract.
-use borrow.Author.Rules.{rules}
 use native.Mathlib.Omega.{arith}
 use Rattle.flights.specs.Flight.{offered}
 use Rattle.flights.specs.Made.{byte_offered}

@@ -1,10 +1,7 @@
 use borrow.Author.Rules.{rules}
-use mathlib.Core.Path.{◌≡◌, refl}
-use mathlib.Core.Bool.{◌&&◌}
-use Prim.Native.Nat.{◌≤◌, ◌-◌}
+use mathlib.Core.Path.{refl}
 use native.Mathlib.Omega.{arith}
-use lib.ListN.{length, drop}
-use Rattle.places.specs.Bytes.{each, each_more, each_done}
+use Rattle.places.specs.Bytes.{each_more, each_done}
 use Rattle.places.proofs.all_are.Goals as goal
 
 pub loop-i-preserved : goal.loop-i-preserved

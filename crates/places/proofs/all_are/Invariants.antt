@@ -1,11 +1,9 @@
 -- `places::all_are` meets its contract.
-use borrow.Author.Rules.{rules}
-use mathlib.Core.Path.{◌≡◌, refl}
+use mathlib.Core.Path.{◌≡◌}
 use mathlib.Core.Bool.{◌&&◌}
 use Prim.Native.Nat.{◌≤◌, ◌-◌}
-use native.Mathlib.Omega.{arith}
 use lib.ListN.{length, drop}
-use Rattle.places.specs.Bytes.{each, each_more, each_done}
+use Rattle.places.specs.Bytes.{each}
 use Rattle.places.proofs.all_are.Given as goal
 
 abbrev pub invariant-loop-i : goal.invariant-loop-i

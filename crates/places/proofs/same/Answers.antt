@@ -1,10 +1,7 @@
 use borrow.Author.Rules.{rules}
-use mathlib.Core.Path.{◌≡◌, refl, sym}
-use mathlib.Core.Bool.{◌&&◌}
-use Prim.Native.Nat.{◌≤◌, ◌-◌}
+use mathlib.Core.Path.{refl, sym}
 use native.Mathlib.Omega.{arith}
-use lib.ListN.{length, drop}
-use Rattle.places.specs.Bytes.{same, same_more, same_done, same_length}
+use Rattle.places.specs.Bytes.{same_more, same_done, same_length}
 use Rattle.places.proofs.same.Goals as goal
 
 pub returns-then-a-b : goal.returns-then-a-b

@@ -1,11 +1,9 @@
 -- `places::same` meets its contract.
-use borrow.Author.Rules.{rules}
-use mathlib.Core.Path.{◌≡◌, refl, sym}
+use mathlib.Core.Path.{◌≡◌}
 use mathlib.Core.Bool.{◌&&◌}
 use Prim.Native.Nat.{◌≤◌, ◌-◌}
-use native.Mathlib.Omega.{arith}
 use lib.ListN.{length, drop}
-use Rattle.places.specs.Bytes.{same, same_more, same_done, same_length}
+use Rattle.places.specs.Bytes.{same}
 use Rattle.places.proofs.same.Given as goal
 
 abbrev pub invariant-loop-i : goal.invariant-loop-i

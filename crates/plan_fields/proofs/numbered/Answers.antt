@@ -1,6 +1,5 @@
 use mathlib.Core.Bool.{false≢true}
 use native.Mathlib.Omega.{arith}
-use borrow.Author.Rules.{rules}
 use Rattle.fields.specs.Numbers.{numbered_is}
 use Rattle.plan_fields.proofs.numbered.Goals as goal
 

@@ -1,4 +1,3 @@
-use borrow.Author.Rules.{rules}
 use mathlib.Core.Path.{◌≡◌, ◌∙◌}
 use Rattle.scan.specs.Scanner.{scan}
 use borrow.Author.Tests.{not-true}

@@ -1,9 +1,4 @@
-use Prim.Native.Nat.{◌+◌, ◌≤◌, ◌-◌}
-use mathlib.Core.Path.{◌≡◌}
 use native.Mathlib.Omega.{arith}
-use lib.ListN.{length, drop}
-use borrow.Author.Rules.{rules}
-use Rattle.reader.specs.Reading.{hyphens}
 use Rattle.reader.specs.Hyphens.{hyphen_on, hyphen_off, hyphen_end}
 use Rattle.reader.proofs.few_hyphens.Goals as goal
 use Rattle.reader.proofs.few_hyphens.Goals.{then-s-i-eq45, else-s-i-eq45}
@@ -13,8 +8,8 @@ loop-i-preserved c =
     let l = c.loop-i in
     let s = c.args.s.now in
     elim c.if-s-i-eq45.branch [
-      then-s-i-eq45 w ↦ (omega arith, omega arith, omega (arith, hyphen_on s l.i c.loop-i-test.true w.if-s-i-eq45.true)) |
-      else-s-i-eq45 w ↦ (omega arith, omega arith, omega (arith, hyphen_off s l.i c.loop-i-test.true w.if-s-i-eq45.false))
+      | then-s-i-eq45 w ↦ (omega arith, omega arith, omega (arith, hyphen_on s l.i c.loop-i-test.true w.if-s-i-eq45.true))
+      | else-s-i-eq45 w ↦ (omega arith, omega arith, omega (arith, hyphen_off s l.i c.loop-i-test.true w.if-s-i-eq45.false))
     ]
 
 pub loop-i-init : goal.loop-i-init

@@ -1,12 +1,8 @@
 -- those passed and those left are all
 use Prim.Native.Nat.{◌+◌, ◌≤◌, ◌-◌}
 use mathlib.Core.Path.{◌≡◌}
-use mathlib.Core.Logic.{⊎_elim}
-use native.Mathlib.Omega.{arith}
 use lib.ListN.{length, drop}
-use borrow.Author.Rules.{rules}
 use Rattle.reader.specs.Reading.{hyphens}
-use Rattle.reader.specs.Hyphens.{hyphen_on, hyphen_off, hyphen_end}
 use Rattle.reader.proofs.few_hyphens.Given as goal
 
 abbrev pub invariant-loop-i : goal.invariant-loop-i

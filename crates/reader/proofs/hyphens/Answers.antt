@@ -1,9 +1,6 @@
-use Prim.Native.Nat.{◌+◌, ◌≤◌, ◌-◌}
-use mathlib.Core.Path.{◌≡◌}
 use native.Mathlib.Omega.{arith}
-use lib.ListN.{length, drop, length-take, length-drop}
+use lib.ListN.{length-take, length-drop}
 use borrow.Author.Rules.{rules}
-use Rattle.reader.specs.Reading.{hyphens}
 use Rattle.reader.specs.Hyphens.{hyphen_part, hyphen_block, hyphen_rest}
 use Rattle.reader.proofs.hyphens.Goals as goal
 

@@ -1,11 +1,8 @@
 -- those passed and those left are all
 use Prim.Native.Nat.{◌+◌, ◌≤◌, ◌-◌}
 use mathlib.Core.Path.{◌≡◌}
-use native.Mathlib.Omega.{arith}
-use lib.ListN.{length, drop, length-take, length-drop}
-use borrow.Author.Rules.{rules}
+use lib.ListN.{length, drop}
 use Rattle.reader.specs.Reading.{hyphens}
-use Rattle.reader.specs.Hyphens.{hyphen_part, hyphen_block, hyphen_rest}
 use Rattle.reader.proofs.hyphens.Given as goal
 
 abbrev pub invariant-loop-i : goal.invariant-loop-i

@@ -1,7 +1,8 @@
 use Rattle.types.specs.Messages.{message}
 use Rattle.types.specs.Scanned.{ends}
 use Rattle.message.specs.Record.{blank}
-use Rattle.reader.specs.Reader.{read_verdict, refused_judged, verdict_only, place_within}
+use Rattle.reader.specs.Reader.{read_verdict, refused_judged, place_within}
+use Rattle.reader.proofs.Judging.{verdict_only}
 use mathlib.Core.Path.{refl}
 use Rattle.reader.proofs.judge.Goals as goal
 

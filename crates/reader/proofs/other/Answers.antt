@@ -3,7 +3,7 @@ use Prim.Native.Nat.{◌+◌, ◌≤◌}
 use lib.ListN.{length}
 use Rattle.scan.specs.Grammar.{place_of, size_of, Span}
 use Rattle.reader.specs.Reading.{cut, other}
-use Rattle.reader.specs.Reader.{other_within, words_of}
+use Rattle.reader.proofs.Judging.{other_within, words_of}
 use Rattle.reader.proofs.other.Goals as goal
 
 pub part_of-requires : goal.part_of-requires

@@ -2,7 +2,8 @@ use mathlib.Core.Path.{◌∙◌}
 use Rattle.types.specs.Messages.{message}
 use Rattle.types.specs.Scanned.{found_by, ends}
 use Rattle.message.specs.Record.{figures_of}
-use Rattle.reader.specs.Reader.{all_found, read_judged, refused_judged, place_within}
+use Rattle.reader.specs.Reader.{all_found, refused_judged, place_within}
+use Rattle.reader.proofs.Judging.{read_judged}
 use Rattle.reader.proofs.read.Goals as goal
 
 pub returns-then-end-place : goal.returns-then-end-place

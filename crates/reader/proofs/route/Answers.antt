@@ -3,7 +3,7 @@ use Prim.Native.Nat.{◌+◌, ◌≤◌}
 use lib.ListN.{length}
 use Rattle.scan.specs.Grammar.{place_of, size_of, Span}
 use Rattle.reader.specs.Reading.{cut, route}
-use Rattle.reader.specs.Reader.{route_within, words_of}
+use Rattle.reader.proofs.Judging.{route_within, words_of}
 use Rattle.reader.proofs.route.Goals as goal
 
 pub part_of-requires : goal.part_of-requires

@@ -1,5 +1,4 @@
 -- `response::add_numbers` meets its contract.
-use borrow.Author.Rules.{rules}
 use Rattle.pen.specs.Laying.{then}
 use Rattle.response.proofs.add_numbers.Goals as goal
 

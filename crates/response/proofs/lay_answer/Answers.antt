@@ -1,7 +1,6 @@
 -- `response::lay_answer` meets its contract.
-use borrow.Author.Rules.{rules}
 use native.Mathlib.Omega.{arith}
-use Rattle.excerpt.specs.Fitting.{starts}
+use Rattle.excerpt.proofs.Fitting.{starts}
 use Rattle.deeds.specs.Message.{message_of}
 use Rattle.response.specs.Answering.{answer_text}
 use Rattle.response.specs.Blocks.{lam_text, rla_text, lrm_text, answer_short, numbers_inside, rla_inside}

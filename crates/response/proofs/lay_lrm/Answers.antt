@@ -1,5 +1,4 @@
 -- `response::lay_lrm` meets its contract.
-use borrow.Author.Rules.{rules}
 use Rattle.pen.specs.Laying.{then}
 use Rattle.response.proofs.lay_lrm.Goals as goal
 

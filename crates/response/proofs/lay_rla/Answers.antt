@@ -1,5 +1,4 @@
 -- `response::lay_rla` meets its contract.
-use borrow.Author.Rules.{rules}
 use Rattle.pen.specs.Laying.{then}
 use Rattle.response.proofs.lay_rla.Goals as goal
 

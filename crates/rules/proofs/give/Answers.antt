@@ -1,5 +1,4 @@
 -- `rules::give` meets its contract.
-use borrow.Author.Rules.{rules}
 use Rattle.rules.specs.Giving.{gave, gave_none}
 use Rattle.rules.proofs.give.Goals as goal
 

@@ -1,5 +1,4 @@
 -- `rules::has_units` meets its contract.
-use borrow.Author.Rules.{rules}
 use mathlib.Core.Path.{refl}
 use mathlib.Core.Bool.{◌&&◌}
 use Rattle.deeds.specs.Laws.{same_on}

@@ -1,5 +1,4 @@
 -- `rules::same_keys` meets its contract.
-use borrow.Author.Rules.{rules}
 use mathlib.Core.Bool.{◌&&◌}
 use Rattle.deeds.specs.Laws.{same_on}
 use Rattle.rules.proofs.same_keys.Goals as goal

@@ -1,10 +1,4 @@
-use mathlib.Core.Path.{◌≡◌, refl}
-use mathlib.Core.Bool.{◌&&◌}
-use Prim.Native.Nat.{◌-◌}
-use lib.ListN.{length, drop}
-use borrow.Author.Rules.{rules}
-use Rattle.scan.specs.declared.Class.TheVariants.{Two}
-use Rattle.scan.specs.Grammar.{all}
+use mathlib.Core.Path.{refl}
 use Rattle.scan.specs.Laws.{all_next, all_end}
 use Rattle.scan.proofs.all_in.Goals as goal
 

@@ -1,11 +1,9 @@
-use mathlib.Core.Path.{◌≡◌, refl}
+use mathlib.Core.Path.{◌≡◌}
 use mathlib.Core.Bool.{◌&&◌}
 use Prim.Native.Nat.{◌-◌}
 use lib.ListN.{length, drop}
-use borrow.Author.Rules.{rules}
 use Rattle.scan.specs.declared.Class.TheVariants.{Two}
 use Rattle.scan.specs.Grammar.{all}
-use Rattle.scan.specs.Laws.{all_next, all_end}
 use Rattle.scan.proofs.all_in.Given as goal
 
 abbrev pub invariant-loop-j : goal.invariant-loop-j

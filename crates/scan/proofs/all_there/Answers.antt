@@ -1,4 +1,3 @@
-use borrow.Author.Rules.{rules}
 use native.Mathlib.Omega.{arith}
 use Rattle.scan.specs.Laws.{whole_not, whole_as}
 use Rattle.scan.proofs.all_there.Goals as goal

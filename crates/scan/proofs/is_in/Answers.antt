@@ -1,7 +1,6 @@
 use mathlib.Core.Path.{ap, sym}
 use Rattle.scan.specs.Grammar.{is_in}
 use Rattle.scan.specs.declared.Class.{Class}
-use borrow.Author.Rules.{rules}
 use Rattle.scan.proofs.is_in.Goals as goal
 
 pub returns-in-Letter : goal.returns-in-Letter

@@ -1,5 +1,4 @@
 -- `scan::is_name` meets its contract.
-use borrow.Author.Rules.{rules}
 use Rattle.scan.specs.Theory.{name_is}
 use Rattle.scan.proofs.is_name.Goals as goal
 

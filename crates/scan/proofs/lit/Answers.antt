@@ -1,9 +1,5 @@
-use Prim.Native.Nat.{◌≤◌, ◌-◌}
-use mathlib.Core.Path.{◌≡◌, sym, ◌∙◌}
+use mathlib.Core.Path.{sym, ◌∙◌}
 use borrow.Author.Rules.{rules}
-use lib.ListN.{length, drop}
-use Rattle.scan.specs.Scanner.{scan}
-use Rattle.scan.specs.Texts.{lit}
 use Rattle.scan.specs.Laws.{lit_again, lit_end}
 use Rattle.scan.proofs.lit.Goals as goal
 

@@ -1,10 +1,8 @@
 use Prim.Native.Nat.{◌≤◌, ◌-◌}
-use mathlib.Core.Path.{◌≡◌, sym, ◌∙◌}
-use borrow.Author.Rules.{rules}
+use mathlib.Core.Path.{◌≡◌}
 use lib.ListN.{length, drop}
 use Rattle.scan.specs.Scanner.{scan}
 use Rattle.scan.specs.Texts.{lit}
-use Rattle.scan.specs.Laws.{lit_again, lit_end}
 use Rattle.scan.proofs.lit.Given as goal
 
 abbrev pub invariant-loop-i : goal.invariant-loop-i

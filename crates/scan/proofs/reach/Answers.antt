@@ -1,8 +1,6 @@
-use mathlib.Core.Path.{◌≡◌, refl, sym, ◌∙◌}
+use mathlib.Core.Path.{refl, sym, ◌∙◌}
 use borrow.Author.Rules.{rules}
 use borrow.Author.Tests.{not-true, not-false}
-use Rattle.scan.specs.declared.Class.TheVariants.{Two}
-use Rattle.scan.specs.Scanner.{run_at}
 use Rattle.scan.specs.Laws.{run_none, run_past, run_off, run_on}
 use Rattle.scan.proofs.reach.Goals as goal
 

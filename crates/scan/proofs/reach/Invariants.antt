@@ -1,10 +1,7 @@
 -- what is left to pass from i is what was to pass from the start
-use mathlib.Core.Path.{◌≡◌, refl, sym, ◌∙◌}
-use borrow.Author.Rules.{rules}
-use borrow.Author.Tests.{not-true, not-false}
+use mathlib.Core.Path.{◌≡◌}
 use Rattle.scan.specs.declared.Class.TheVariants.{Two}
 use Rattle.scan.specs.Scanner.{run_at}
-use Rattle.scan.specs.Laws.{run_none, run_past, run_off, run_on}
 use Rattle.scan.proofs.reach.Given as goal
 
 abbrev pub invariant-loop-left : goal.invariant-loop-left

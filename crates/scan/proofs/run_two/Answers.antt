@@ -1,10 +1,8 @@
-use mathlib.Core.Path.{◌≡◌, refl, sym, ◌∙◌}
-use Prim.Native.Nat.{◌≤◌}
+use mathlib.Core.Path.{refl, sym, ◌∙◌}
 use native.Mathlib.Omega.{arith}
 use borrow.Author.Rules.{rules}
 use borrow.Author.Tests.{not-true, not-false}
 use Rattle.scan.specs.declared.Class.TheVariants.{Two}
-use Rattle.scan.specs.Scanner.{run_at}
 use Rattle.scan.specs.Laws.{run_is, run_skip, run_forth, run_blocks}
 use Rattle.scan.proofs.run_two.Goals as goal
 

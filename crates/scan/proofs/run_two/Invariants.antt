@@ -1,11 +1,7 @@
-use mathlib.Core.Path.{◌≡◌, refl, sym, ◌∙◌}
+use mathlib.Core.Path.{◌≡◌}
 use Prim.Native.Nat.{◌≤◌}
-use native.Mathlib.Omega.{arith}
-use borrow.Author.Rules.{rules}
-use borrow.Author.Tests.{not-true, not-false}
 use Rattle.scan.specs.declared.Class.TheVariants.{Two}
 use Rattle.scan.specs.Scanner.{run_at}
-use Rattle.scan.specs.Laws.{run_is, run_skip, run_forth, run_blocks}
 use Rattle.scan.proofs.run_two.Given as goal
 
 abbrev pub invariant-loop-left : goal.invariant-loop-left

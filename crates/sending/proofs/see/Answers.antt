@@ -1,6 +1,5 @@
 -- `sending::see` meets its contract.
 -- what is shown, once it is told which it is
-use borrow.Author.Rules.{rules}
 use borrow.Author.Tests.{not-true, not-false}
 use mathlib.Core.Path.{◌≡◌, sym, subst}
 use mathlib.Core.Bool.{Bool, true}

@@ -1,14 +1,12 @@
 use borrow.Author.Rules.{rules}
 use borrow.Author.Tests.{not-true, not-false}
 use mathlib.Core.Path.{◌≡◌, sym, ap, ◌∙◌, subst}
-use mathlib.Core.Bool.{◌||◌}
-use Prim.Native.Nat.{ℕ, ◌+◌, ◌≤◌, ◌-◌}
+use Prim.Native.Nat.{ℕ, ◌+◌}
 use native.Mathlib.Omega.{arith}
 use Rattle.places.specs.Below.{Below}
 use Rattle.unanswered.specs.Waiting.{FormedAt}
 use Rattle.unanswered.specs.Formed.{one_further}
 use Rattle.deeds.specs.Message.{message_of}
-use Rattle.memory.specs.End.{waiting_in}
 use Rattle.rules.specs.Sending.{any_waiting, count_waiting, naming, making}
 use Rattle.sending.specs.Asked.{rest_of, rest_all, any_on_further, any_end, count_all, count_one, count_not, count_end}
 use Rattle.sending.specs.Survey.{not_surveyed, one_broken, surveyed}
@@ -47,8 +45,8 @@ loop-i-preserved c =
     let formed = one_further (FormedAt a.ours.now a.partners.now U) l.i l.invariant.2 (s.formed.yes y) in
     let any = any_on_further (naming m) l.i U _ l.named c.see-x.result.named h (s.named y) l.invariant.3 in
     elim c.if-x.branch [
-      then-x w ↦ (search rules, omega (arith, w.makers-is, l.invariant.1), formed, any, count_one making l.i _ l.makers U h (sym (s.makes y) ∙ w.if-x.true) l.invariant.4 ∙ ap on (sym w.makers-is)) |
-      else-x w ↦ (search rules, omega (arith, w.makers-is, l.invariant.1), formed, any, count_not making l.i _ l.makers U h (sym (s.makes y) ∙ w.if-x.false) l.invariant.4 ∙ ap on (sym w.makers-is))
+      | then-x w ↦ (search rules, omega (arith, w.makers-is, l.invariant.1), formed, any, count_one making l.i _ l.makers U h (sym (s.makes y) ∙ w.if-x.true) l.invariant.4 ∙ ap on (sym w.makers-is))
+      | else-x w ↦ (search rules, omega (arith, w.makers-is, l.invariant.1), formed, any, count_not making l.i _ l.makers U h (sym (s.makes y) ∙ w.if-x.false) l.invariant.4 ∙ ap on (sym w.makers-is))
     ]
 
 pub returns : goal.returns

@@ -1,19 +1,13 @@
 -- `sending::survey` meets its contract. The invariant: what was found up to i, and what is from i on, is all.
-use borrow.Author.Rules.{rules}
-use borrow.Author.Tests.{not-true, not-false}
-use mathlib.Core.Path.{◌≡◌, sym, ap, ◌∙◌, subst}
-use mathlib.Core.Logic.{⊎_elim}
+use mathlib.Core.Path.{◌≡◌}
 use mathlib.Core.Bool.{◌||◌}
-use Prim.Native.Nat.{ℕ, ◌+◌, ◌≤◌, ◌-◌}
-use native.Mathlib.Omega.{arith}
+use Prim.Native.Nat.{◌+◌, ◌≤◌, ◌-◌}
 use Rattle.places.specs.Below.{Below}
 use Rattle.unanswered.specs.Waiting.{FormedAt}
-use Rattle.unanswered.specs.Formed.{one_further}
 use Rattle.deeds.specs.Message.{message_of}
 use Rattle.memory.specs.End.{waiting_in}
 use Rattle.rules.specs.Sending.{any_waiting, count_waiting, naming, making}
-use Rattle.sending.specs.Asked.{rest_of, rest_all, any_on_further, any_end, count_all, count_one, count_not, count_end}
-use Rattle.sending.specs.Survey.{not_surveyed, one_broken, surveyed}
+use Rattle.sending.specs.Asked.{rest_of}
 use Rattle.sending.proofs.survey.Given as goal
 
 abbrev pub invariant-loop-i : goal.invariant-loop-i

@@ -1,12 +1,8 @@
 -- `splice::fill` meets its contract. The invariant: the first i of the n bytes are pasted. Assumes nothing.
-use borrow.Author.Rules.{rules}
-use mathlib.Core.Path.{◌≡◌, refl, ap, ◌∙◌}
-use mathlib.Core.List.{List}
-use Prim.Native.Nat.{ℕ, ◌≤◌, ◌-◌, ◌+◌}
-use native.Mathlib.Omega.{arith}
-use lib.ListN.{length, set, replicate, length-replicate}
-use lib.Seq.{paste, paste-zero}
-use Rattle.splice.specs.Splicing.{paste_all, fill_more}
+use mathlib.Core.Path.{◌≡◌}
+use Prim.Native.Nat.{◌≤◌, ◌-◌}
+use lib.ListN.{length, replicate}
+use lib.Seq.{paste}
 use Rattle.splice.proofs.fill.Given as goal
 
 abbrev pub invariant-loop-i : goal.invariant-loop-i

@@ -1,12 +1,8 @@
 -- `splice::put` meets its contract. The invariant: the first i bytes of src are pasted. Assumes nothing.
-use borrow.Author.Rules.{rules}
-use mathlib.Core.Path.{◌≡◌, refl, ap, ◌∙◌}
-use mathlib.Core.List.{List}
-use Prim.Native.Nat.{ℕ, ◌≤◌, ◌-◌, ◌+◌}
-use native.Mathlib.Omega.{arith}
-use lib.ListN.{length, get_or, set}
-use lib.Seq.{paste, paste-zero}
-use Rattle.splice.specs.Splicing.{paste_all, paste_more}
+use mathlib.Core.Path.{◌≡◌}
+use Prim.Native.Nat.{◌≤◌, ◌-◌}
+use lib.ListN.{length}
+use lib.Seq.{paste}
 use Rattle.splice.proofs.put.Given as goal
 
 abbrev pub invariant-loop-i : goal.invariant-loop-i

@@ -1,6 +1,5 @@
 use mathlib.Core.Path.{◌∙◌}
 use mathlib.Core.List.{[], ◌∷◌}
-use borrow.Author.Rules.{rules}
 use Rattle.scan.specs.declared.Class.TheVariants.{Digit}
 use Rattle.scan.specs.Grammar.{run}
 use Rattle.scan.specs.Texts.{byte, lit}

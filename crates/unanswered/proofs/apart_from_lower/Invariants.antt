@@ -1,12 +1,8 @@
 -- `unanswered::apart_from_lower` meets its contract.
-use borrow.Author.Rules.{rules}
-use mathlib.Core.Path.{◌≡◌, subst}
-use Prim.Native.Nat.{ℕ, ◌≤◌, ◌-◌}
-use native.Mathlib.Omega.{arith}
+use Prim.Native.Nat.{◌≤◌, ◌-◌}
 use Rattle.scan.specs.Bools.{Decides}
-use Rattle.places.specs.Below.{Below, none_below, one_more}
+use Rattle.places.specs.Below.{Below}
 use Rattle.unanswered.specs.Waiting.{place, Apart}
-use Rattle.unanswered.specs.Formed.{lent_long, on_places}
 use Rattle.unanswered.proofs.apart_from_lower.Given as goal
 
 abbrev pub invariant-loop-j : goal.invariant-loop-j

@@ -1,7 +1,6 @@
 use borrow.Author.Rules.{rules}
-use mathlib.Core.Path.{◌≡◌, sym, ap, ◌∙◌}
-use Prim.Native.Nat.{◌≤◌, ◌-◌}
-use Rattle.places.specs.Search.{first_from, from_first, first_here, first_next, first_none}
+use mathlib.Core.Path.{sym, ap, ◌∙◌}
+use Rattle.places.specs.Search.{from_first, first_here, first_next, first_none}
 use Rattle.unanswered.specs.Waiting.{place, has_number}
 use Rattle.unanswered.specs.Formed.{lent, lent_long}
 use Rattle.unanswered.proofs.find.Goals as goal

@@ -1,10 +1,8 @@
 -- `unanswered::find` meets its contract.
-use borrow.Author.Rules.{rules}
-use mathlib.Core.Path.{◌≡◌, sym, ap, ◌∙◌}
+use mathlib.Core.Path.{◌≡◌}
 use Prim.Native.Nat.{◌≤◌, ◌-◌}
-use Rattle.places.specs.Search.{first_from, from_first, first_here, first_next, first_none}
+use Rattle.places.specs.Search.{first_from}
 use Rattle.unanswered.specs.Waiting.{place, has_number}
-use Rattle.unanswered.specs.Formed.{lent, lent_long}
 use Rattle.unanswered.proofs.find.Given as goal
 
 abbrev pub invariant-loop-i : goal.invariant-loop-i

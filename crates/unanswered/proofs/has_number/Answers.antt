@@ -1,5 +1,4 @@
 -- `unanswered::has_number` meets its contract.
-use borrow.Author.Rules.{rules}
 use Rattle.unanswered.specs.Formed.{number_is}
 use Rattle.unanswered.proofs.has_number.Goals as goal
 

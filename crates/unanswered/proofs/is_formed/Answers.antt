@@ -1,6 +1,5 @@
 -- `unanswered::is_formed` meets its contract.
 -- what is shown, once it is told which it is
-use borrow.Author.Rules.{rules}
 use mathlib.Core.Path.{◌≡◌, subst}
 use mathlib.Core.List.{List}
 use Prim.Native.Nat.{ℕ}

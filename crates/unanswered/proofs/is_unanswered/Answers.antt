@@ -1,5 +1,4 @@
 -- `unanswered::is_unanswered` meets its contract.
-use borrow.Author.Rules.{rules}
 use Rattle.unanswered.specs.Formed.{wrong_length, unanswered_is}
 use Rattle.unanswered.proofs.is_unanswered.Goals as goal
 

@@ -1,9 +1,9 @@
 use borrow.Author.Rules.{rules}
-use mathlib.Core.Path.{◌≡◌, sym, ap, ◌∙◌}
-use Prim.Native.Nat.{ℕ, ◌≤◌, ◌-◌}
+use mathlib.Core.Path.{sym, ap, ◌∙◌}
+use Prim.Native.Nat.{ℕ}
 use lib.Dec.{eqb}
 use borrow.Author.Tests.{eq-eqb, ne_eqb}
-use Rattle.places.specs.Search.{first_from, from_first, first_here, first_next, first_none}
+use Rattle.places.specs.Search.{from_first, first_here, first_next, first_none}
 use Rattle.unanswered.specs.Waiting.{place}
 use Rattle.unanswered.specs.Formed.{first_at}
 use Rattle.places.specs.Bytes.{free}

@@ -1,10 +1,7 @@
 -- `unanswered::places_formed` meets its contract.
-use borrow.Author.Rules.{rules}
-use mathlib.Core.Path.{◌≡◌, subst}
-use Prim.Native.Nat.{ℕ, ◌≤◌, ◌-◌}
-use native.Mathlib.Omega.{arith}
+use Prim.Native.Nat.{◌≤◌, ◌-◌}
 use Rattle.scan.specs.Bools.{Decides}
-use Rattle.places.specs.Below.{Below, none_below, one_more}
+use Rattle.places.specs.Below.{Below}
 use Rattle.unanswered.specs.Waiting.{FormedAt}
 use Rattle.unanswered.proofs.places_formed.Given as goal
 

@@ -1,5 +1,4 @@
 use native.Mathlib.Omega.{arith}
-use borrow.Author.Rules.{rules}
 use Rattle.words.specs.Blocks.{word_letter, word_low, word_bit_lem}
 use Rattle.words.proofs.is_word.Goals as goal
 

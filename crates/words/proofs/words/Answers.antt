@@ -1,7 +1,6 @@
 -- `words::words` meets its contract.
-use mathlib.Core.Path.{refl, sym, ◌∙◌}
+use mathlib.Core.Path.{refl, sym}
 use native.Mathlib.Omega.{arith}
-use borrow.Author.Rules.{rules}
 use borrow.Author.Tests.{not-true, not-false}
 use Rattle.scan.specs.Laws.{words_past, words_is, words_skip}
 use Rattle.words.proofs.words.Goals as goal

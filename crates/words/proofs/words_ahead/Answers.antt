@@ -1,12 +1,9 @@
-use mathlib.Core.Path.{◌≡◌, sym, ◌∙◌}
-use mathlib.Core.Bool.{false}
-use Prim.Native.Nat.{◌+◌, ◌<◌}
+use mathlib.Core.Path.{sym, ◌∙◌}
 use native.Mathlib.Omega.{arith}
-use lib.ListN.{length, length-take, length-drop}
+use lib.ListN.{length-take, length-drop}
 use borrow.Author.Rules.{rules}
 use borrow.Author.Tests.{not-false}
-use Rattle.scan.specs.Scanner.{words_at}
-use Rattle.words.specs.Blocks.{mid, block, first}
+use Rattle.words.specs.Blocks.{block, first}
 use Rattle.words.proofs.words_ahead.Goals as goal
 
 pub loop-left-init : goal.loop-left-init

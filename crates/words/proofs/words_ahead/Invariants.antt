@@ -1,12 +1,9 @@
-use mathlib.Core.Path.{◌≡◌, sym, ◌∙◌}
+use mathlib.Core.Path.{◌≡◌}
 use mathlib.Core.Bool.{false}
 use Prim.Native.Nat.{◌+◌, ◌<◌}
-use native.Mathlib.Omega.{arith}
-use lib.ListN.{length, length-take, length-drop}
-use borrow.Author.Rules.{rules}
-use borrow.Author.Tests.{not-false}
+use lib.ListN.{length}
 use Rattle.scan.specs.Scanner.{words_at}
-use Rattle.words.specs.Blocks.{mid, block, first}
+use Rattle.words.specs.Blocks.{mid}
 use Rattle.words.proofs.words_ahead.Given as goal
 
 abbrev pub invariant-loop-left : goal.invariant-loop-left

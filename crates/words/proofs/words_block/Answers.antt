@@ -1,9 +1,6 @@
-use mathlib.Core.Path.{◌≡◌, refl}
-use mathlib.Core.Bool.{◌&&◌}
-use Prim.Native.Nat.{◌-◌, ◌<◌}
-use lib.ListN.{length}
+use mathlib.Core.Path.{refl}
 use borrow.Author.Rules.{rules}
-use Rattle.words.specs.Blocks.{clean_from, follows_is, clean_next, clean_end}
+use Rattle.words.specs.Blocks.{follows_is, clean_next, clean_end}
 use Rattle.words.proofs.words_block.Goals as goal
 
 pub loop-j-init : goal.loop-j-init

@@ -1,9 +1,8 @@
-use mathlib.Core.Path.{◌≡◌, refl}
+use mathlib.Core.Path.{◌≡◌}
 use mathlib.Core.Bool.{◌&&◌}
 use Prim.Native.Nat.{◌-◌, ◌<◌}
 use lib.ListN.{length}
-use borrow.Author.Rules.{rules}
-use Rattle.words.specs.Blocks.{clean_from, follows_is, clean_next, clean_end}
+use Rattle.words.specs.Blocks.{clean_from}
 use Rattle.words.proofs.words_block.Given as goal
 
 abbrev pub invariant-loop-j : goal.invariant-loop-j

@@ -1,8 +1,7 @@
-use Prim.Native.Nat.{◌-◌, ◌≤◌}
 use native.Mathlib.Omega.{arith}
 use mathlib.Core.Path.{sym, ◌∙◌}
 use borrow.Author.Rules.{rules}
-use Rattle.words.specs.Tail.{Left, left_all, left_on, left_gap, left_off, left_none}
+use Rattle.words.specs.Tail.{left_all, left_on, left_gap, left_off, left_none}
 use Rattle.words.proofs.words_to.Goals as goal
 
 pub loop-i-preserved-then-is_word : goal.loop-i-preserved-then-is_word

@@ -1,9 +1,6 @@
 -- `words::words_to` meets its contract.
 use Prim.Native.Nat.{◌-◌, ◌≤◌}
-use native.Mathlib.Omega.{arith}
-use mathlib.Core.Path.{sym, ◌∙◌}
-use borrow.Author.Rules.{rules}
-use Rattle.words.specs.Tail.{Left, left_all, left_on, left_gap, left_off, left_none}
+use Rattle.words.specs.Tail.{Left}
 use Rattle.words.proofs.words_to.Given as goal
 
 abbrev pub invariant-loop-i : goal.invariant-loop-i

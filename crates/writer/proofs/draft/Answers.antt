@@ -1,5 +1,4 @@
 -- `writer::draft` meets its contract.
-use borrow.Author.Rules.{rules}
 use mathlib.Core.Path.{sym}
 use borrow.Author.Tests.{not-true, not-false}
 use Rattle.writer.specs.Drawn.{unlaid, draft_fits, draft_size, unread, drawn}

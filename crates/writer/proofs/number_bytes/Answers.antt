@@ -1,5 +1,4 @@
 -- `writer::number_bytes` meets its contract.
-use borrow.Author.Rules.{rules}
 use Rattle.writer.specs.Drawn.{number_made}
 use Rattle.writer.proofs.number_bytes.Goals as goal
 

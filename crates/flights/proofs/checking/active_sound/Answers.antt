@@ -1,5 +1,4 @@
 -- `flights::checking::active_sound` meets its contract.
-use borrow.Author.Rules.{rules}
 use lib.ListN.{get_or}
 use Rattle.scan.specs.Bools.{decides_and, decides_or, at_most}
 use Rattle.fields.specs.Fields.{timed, in14}

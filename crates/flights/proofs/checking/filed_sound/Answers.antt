@@ -1,5 +1,4 @@
 -- `flights::checking::filed_sound` meets its contract.
-use borrow.Author.Rules.{rules}
 use lib.ListN.{get_or}
 use Rattle.scan.specs.Bools.{decides_and, equals}
 use Rattle.fields.specs.Fields.{timed}

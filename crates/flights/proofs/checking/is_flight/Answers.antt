@@ -1,5 +1,4 @@
 -- `flights::checking::is_flight` meets its contract.
-use borrow.Author.Rules.{rules}
 use native.Mathlib.Omega.{arith}
 use Prim.Native.Nat.{◌<◌}
 use lib.ListN.{get_or}

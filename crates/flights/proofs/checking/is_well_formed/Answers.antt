@@ -1,5 +1,4 @@
 -- `flights::checking::is_well_formed` meets its contract.
-use borrow.Author.Rules.{rules}
 use Rattle.flights.specs.Deciding.{wrong_length, free_is, flight_is}
 use Rattle.flights.proofs.checking.is_well_formed.Goals as goal
 

@@ -1,8 +1,8 @@
 use borrow.Author.Rules.{rules}
-use mathlib.Core.Path.{◌≡◌, sym, ap, ◌∙◌}
-use Prim.Native.Nat.{ℕ, ◌≤◌, ◌-◌, ◌/◌}
+use mathlib.Core.Path.{sym, ap, ◌∙◌}
+use Prim.Native.Nat.{ℕ, ◌/◌}
 use lib.ListN.{length}
-use Rattle.places.specs.Search.{first_from, from_first, first_here, first_next, first_none}
+use Rattle.places.specs.Search.{from_first, first_here, first_next, first_none}
 use Rattle.flights.specs.Table.{place, has_key, lent, lent_long}
 use Rattle.flights.proofs.finding.find.Goals as goal
 

@@ -1,10 +1,8 @@
 -- `flights::finding::find` meets its contract.
-use borrow.Author.Rules.{rules}
-use mathlib.Core.Path.{◌≡◌, sym, ap, ◌∙◌}
-use Prim.Native.Nat.{ℕ, ◌≤◌, ◌-◌, ◌/◌}
-use lib.ListN.{length}
-use Rattle.places.specs.Search.{first_from, from_first, first_here, first_next, first_none}
-use Rattle.flights.specs.Table.{place, has_key, lent, lent_long}
+use mathlib.Core.Path.{◌≡◌}
+use Prim.Native.Nat.{◌≤◌, ◌-◌}
+use Rattle.places.specs.Search.{first_from}
+use Rattle.flights.specs.Table.{place, has_key}
 use Rattle.flights.proofs.finding.find.Given as goal
 
 abbrev pub invariant-loop-i : goal.invariant-loop-i

@@ -1,10 +1,10 @@
 use borrow.Author.Rules.{rules}
-use mathlib.Core.Path.{◌≡◌, sym, ap, ◌∙◌}
-use Prim.Native.Nat.{ℕ, ◌≤◌, ◌-◌, ◌/◌}
+use mathlib.Core.Path.{sym, ap, ◌∙◌}
+use Prim.Native.Nat.{ℕ, ◌/◌}
 use lib.ListN.{length}
 use lib.Dec.{eqb}
 use borrow.Author.Tests.{eq-eqb, ne_eqb}
-use Rattle.places.specs.Search.{first_from, from_first, first_here, first_next, first_none}
+use Rattle.places.specs.Search.{from_first, first_here, first_next, first_none}
 use Rattle.flights.specs.Table.{place, status_at}
 use Rattle.places.specs.Bytes.{free}
 use Rattle.flights.proofs.finding.lowest_free.Goals as goal

@@ -1,7 +1,7 @@
 use borrow.Author.Rules.{rules}
-use mathlib.Core.Path.{◌≡◌, sym, ap, ◌∙◌}
+use mathlib.Core.Path.{sym, ap, ◌∙◌}
 use mathlib.Core.Bool.{Bool, not}
-use Prim.Native.Nat.{ℕ, ◌+◌, ◌≤◌, ◌-◌, ◌/◌}
+use Prim.Native.Nat.{ℕ, ◌+◌, ◌-◌, ◌/◌}
 use native.Mathlib.Omega.{arith}
 use lib.ListN.{length}
 use lib.Dec.{eqb}
@@ -19,8 +19,8 @@ loop-i-preserved c =
     let p : ℕ → Bool = λ k. not (free (place k T)) in
     let h = status_at T l.i in
     elim c.if-table-i-ne0.branch [
-      then-table-i-ne0 w ↦ (search rules, omega (arith, w.count-is), count_one p (length T / 768) l.i _ l.count c.loop-i-test.true (ap (λ (x : ℕ). not (eqb x 0)) h ∙ ap not (ne_eqb _ _ w.if-table-i-ne0.true)) l.invariant.2 ∙ ap (λ (k : ℕ). k + count_from p (length T / 768 - (l.i + 1)) (l.i + 1)) (sym w.count-is)) |
-      else-table-i-ne0 w ↦ (search rules, omega (arith, w.count-is), count_not p (length T / 768) l.i _ l.count c.loop-i-test.true (ap (λ (x : ℕ). not (eqb x 0)) h ∙ ap not (eq-eqb _ _ w.if-table-i-ne0.false)) l.invariant.2 ∙ ap (λ (k : ℕ). k + count_from p (length T / 768 - (l.i + 1)) (l.i + 1)) (sym w.count-is))
+      | then-table-i-ne0 w ↦ (search rules, omega (arith, w.count-is), count_one p (length T / 768) l.i _ l.count c.loop-i-test.true (ap (λ (x : ℕ). not (eqb x 0)) h ∙ ap not (ne_eqb _ _ w.if-table-i-ne0.true)) l.invariant.2 ∙ ap (λ (k : ℕ). k + count_from p (length T / 768 - (l.i + 1)) (l.i + 1)) (sym w.count-is))
+      | else-table-i-ne0 w ↦ (search rules, omega (arith, w.count-is), count_not p (length T / 768) l.i _ l.count c.loop-i-test.true (ap (λ (x : ℕ). not (eqb x 0)) h ∙ ap not (eq-eqb _ _ w.if-table-i-ne0.false)) l.invariant.2 ∙ ap (λ (k : ℕ). k + count_from p (length T / 768 - (l.i + 1)) (l.i + 1)) (sym w.count-is))
     ]
 
 pub returns : goal.returns

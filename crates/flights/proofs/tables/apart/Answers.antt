@@ -1,5 +1,4 @@
 -- `flights::tables::apart` meets its contract.
-use borrow.Author.Rules.{rules}
 use borrow.Author.Tests.{eq-eqb, ne_eqb}
 use native.Mathlib.Omega.{arith}
 use Rattle.flights.specs.Formed.{word_apart, raw_apart}

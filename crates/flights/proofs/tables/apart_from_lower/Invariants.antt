@@ -1,12 +1,9 @@
 -- `flights::tables::apart_from_lower` meets its contract.
-use borrow.Author.Rules.{rules}
-use mathlib.Core.Path.{◌≡◌, subst}
-use Prim.Native.Nat.{ℕ, ◌≤◌, ◌-◌}
-use native.Mathlib.Omega.{arith}
+use Prim.Native.Nat.{◌≤◌, ◌-◌}
 use Rattle.scan.specs.Bools.{Decides}
-use Rattle.flights.specs.Table.{place, lent_long}
-use Rattle.places.specs.Below.{Below, none_below, one_more}
-use Rattle.flights.specs.Formed.{Apart, on_places}
+use Rattle.flights.specs.Table.{place}
+use Rattle.places.specs.Below.{Below}
+use Rattle.flights.specs.Formed.{Apart}
 use Rattle.flights.proofs.tables.apart_from_lower.Given as goal
 
 abbrev pub invariant-loop-j : goal.invariant-loop-j

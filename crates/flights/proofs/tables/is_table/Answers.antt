@@ -1,5 +1,4 @@
 -- `flights::tables::is_table` meets its contract.
-use borrow.Author.Rules.{rules}
 use Prim.Native.Nat.{◌*◌}
 use lib.ListN.{length}
 use Rattle.scan.specs.Bools.{equals, at_most}

@@ -1,13 +1,10 @@
 -- `flights::tables::places_formed` meets its contract.
-use borrow.Author.Rules.{rules}
-use mathlib.Core.Path.{◌≡◌, subst}
-use Prim.Native.Nat.{ℕ, ◌≤◌, ◌-◌}
-use native.Mathlib.Omega.{arith}
-use Rattle.scan.specs.Bools.{Decides, decides_and}
+use Prim.Native.Nat.{◌≤◌, ◌-◌}
+use Rattle.scan.specs.Bools.{Decides}
 use Rattle.flights.specs.Flight.{WellFormed}
-use Rattle.flights.specs.Table.{place, places}
-use Rattle.places.specs.Below.{Below, none_below, one_more}
-use Rattle.flights.specs.Formed.{Apart, on_place}
+use Rattle.flights.specs.Table.{place}
+use Rattle.places.specs.Below.{Below}
+use Rattle.flights.specs.Formed.{Apart}
 use Rattle.flights.proofs.tables.places_formed.Given as goal
 
 abbrev pub invariant-loop-i : goal.invariant-loop-i

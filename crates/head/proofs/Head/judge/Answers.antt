@@ -1,5 +1,4 @@
 -- `head::Head::judge` meets its contract.
-use borrow.Author.Rules.{rules}
 use mathlib.Core.Path.{sym}
 use Rattle.head.specs.Head.{is_same, is_new, is_stale, is_old_lem}
 use Rattle.head.proofs.Head.judge.Goals as goal

@@ -1,5 +1,4 @@
 -- `arrivals::hear_again` meets its contract.
-use borrow.Author.Rules.{rules}
 use mathlib.Core.Path.{sym, ap, ◌∙◌}
 use Rattle.rules.specs.Answers.{is_offering}
 use lib.Seq.{length-take-le}

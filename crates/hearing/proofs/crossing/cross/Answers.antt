@@ -1,5 +1,4 @@
 -- `crossing::cross` meets its contract.
-use borrow.Author.Rules.{rules}
 use Rattle.deeds.specs.Message.{message_of}
 use Rattle.excerpt.specs.Sizes.{number_small}
 use Rattle.hearing.specs.Crosses.{offer_ready, accept_ready, both_done}

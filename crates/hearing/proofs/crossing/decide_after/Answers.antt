@@ -1,5 +1,4 @@
 -- `crossing::decide_after` meets its contract.
-use borrow.Author.Rules.{rules}
 use Rattle.hearing.specs.Crosses.{after_fails, after_full, after_done}
 use Rattle.hearing.proofs.crossing.decide_after.Goals as goal
 

@@ -1,5 +1,4 @@
 -- `crossing::follow_both` meets its contract.
-use borrow.Author.Rules.{rules}
 use mathlib.Core.Path.{sym, ◌∙◌}
 use Rattle.deeds.specs.Message.{message_of}
 use Rattle.flights.specs.Decoded.{flights_in}

@@ -1,5 +1,4 @@
 -- `crossing::hear_crossing` meets its contract.
-use borrow.Author.Rules.{rules}
 use mathlib.Core.List.{List}
 use Prim.Native.Nat.{ℕ, ◌<◌}
 use mathlib.Core.Path.{refl, sym, ap, subst, ◌∙◌}

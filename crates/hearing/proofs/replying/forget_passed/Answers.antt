@@ -1,5 +1,4 @@
 -- `replying::forget_passed` meets its contract.
-use borrow.Author.Rules.{rules}
 use Rattle.answers.specs.Given.{forgotten}
 use mathlib.Core.Path.{refl}
 use Rattle.hearing.specs.Hearing.{if_new, if_old}

@@ -1,5 +1,4 @@
 -- `replying::heard` meets its contract.
-use borrow.Author.Rules.{rules}
 use Rattle.head.specs.Head.{received}
 use mathlib.Core.Path.{refl}
 use Rattle.hearing.specs.Hearing.{if_new, if_old}

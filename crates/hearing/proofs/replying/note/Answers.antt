@@ -1,5 +1,4 @@
 -- `replying::note` meets its contract.
-use borrow.Author.Rules.{rules}
 use mathlib.Core.Path.{◌∙◌}
 use Rattle.hearing.specs.Hearing.{kept_long, noting}
 use Rattle.hearing.proofs.replying.note.Goals as goal

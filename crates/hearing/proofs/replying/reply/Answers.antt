@@ -1,5 +1,4 @@
 -- `replying::reply` meets its contract.
-use borrow.Author.Rules.{rules}
 use Rattle.hearing.specs.Hearing.{replying}
 use Rattle.hearing.proofs.replying.reply.Goals as goal
 

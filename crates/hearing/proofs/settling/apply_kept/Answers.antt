@@ -1,5 +1,4 @@
 -- `hearing::settling::apply_kept` meets its contract.
-use borrow.Author.Rules.{rules}
 use Rattle.reader.specs.Reader.{derived_read}
 use Rattle.hearing.specs.Settles.{applied_kept}
 use Rattle.hearing.proofs.settling.apply_kept.Goals as goal

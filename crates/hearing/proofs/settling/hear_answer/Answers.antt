@@ -1,5 +1,4 @@
 -- `hearing::settling::hear_answer` meets its contract.
-use borrow.Author.Rules.{rules}
 use mathlib.Core.Path.{sym, ◌∙◌}
 use Prim.Native.Nat.{ℕ}
 use Rattle.hearing.specs.Settles.{found_used, numbered_used, one_waits, none_waits}

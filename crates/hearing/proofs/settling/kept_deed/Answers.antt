@@ -1,5 +1,4 @@
 -- `hearing::settling::kept_deed` meets its contract.
-use borrow.Author.Rules.{rules}
 use Rattle.reader.specs.Reader.{derived_read}
 use mathlib.Core.Path.{ap, ◌∙◌}
 use Rattle.deeds.specs.Deeds.{deed_of}

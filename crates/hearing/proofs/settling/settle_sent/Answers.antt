@@ -1,5 +1,4 @@
 -- `hearing::settling::settle_sent` meets its contract.
-use borrow.Author.Rules.{rules}
 use Rattle.rules.specs.Reads.{message_in}
 use Rattle.hearing.specs.Settles.{sent_applied, sent_left}
 use Rattle.hearing.proofs.settling.settle_sent.Goals as goal

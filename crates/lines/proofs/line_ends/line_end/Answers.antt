@@ -1,10 +1,4 @@
-use borrow.Author.Rules.{rules}
-use mathlib.Core.Path.{◌≡◌}
-use mathlib.Core.Bool.{true}
-use Prim.Native.Nat.{◌≤◌, ◌-◌}
 use native.Mathlib.Omega.{arith}
-use lib.ListN.{length, take}
-use Rattle.lines.specs.Feeds.{feedless}
 use Rattle.lines.proofs.Feeding.{feedless_more}
 use Rattle.lines.proofs.line_ends.line_end.Goals as goal
 

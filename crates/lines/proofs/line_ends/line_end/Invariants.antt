@@ -1,12 +1,9 @@
 -- `lines::line_ends::line_end` meets its contract. The invariant: no line feed was passed. Assumes nothing.
-use borrow.Author.Rules.{rules}
 use mathlib.Core.Path.{◌≡◌}
 use mathlib.Core.Bool.{true}
 use Prim.Native.Nat.{◌≤◌, ◌-◌}
-use native.Mathlib.Omega.{arith}
 use lib.ListN.{length, take}
 use Rattle.lines.specs.Feeds.{feedless}
-use Rattle.lines.proofs.Feeding.{feedless_more}
 use Rattle.lines.proofs.line_ends.line_end.Given as goal
 
 abbrev pub invariant-loop-i : goal.invariant-loop-i

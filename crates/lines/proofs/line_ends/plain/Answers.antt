@@ -1,10 +1,6 @@
-use borrow.Author.Rules.{rules}
 use borrow.Author.Tests.{eqb-true}
-use mathlib.Core.Path.{◌≡◌, refl, sym, ap, ◌∙◌}
-use mathlib.Core.Bool.{true}
-use Prim.Native.Nat.{◌≤◌, ◌-◌}
+use mathlib.Core.Path.{refl, sym, ap, ◌∙◌}
 use native.Mathlib.Omega.{arith}
-use lib.ListN.{length, take}
 use lib.Seq.{take_all}
 use Rattle.lines.specs.Feeds.{feedless}
 use Rattle.lines.proofs.Feeding.{feedless_more}
@@ -21,8 +17,8 @@ loop-i-preserved c =
     let s = c.args.s.now in (
       omega arith,
       λ e. elim c.if-s-i-eq10.branch [
-        then-s-i-eq10 w ↦ absurd (omega (arith, w.feeds-is)) |
-        else-s-i-eq10 w ↦ feedless_more s l.i c.loop-i-test.true w.if-s-i-eq10.false (l.invariant.1 (sym w.feeds-is ∙ e))
+        | then-s-i-eq10 w ↦ absurd (omega (arith, w.feeds-is))
+        | else-s-i-eq10 w ↦ feedless_more s l.i c.loop-i-test.true w.if-s-i-eq10.false (l.invariant.1 (sym w.feeds-is ∙ e))
       ],
     )
 

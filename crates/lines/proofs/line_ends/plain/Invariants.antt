@@ -1,15 +1,9 @@
 -- `lines::line_ends::plain` meets its contract. The invariant: while none was noted, no line feed was passed. Assumes nothing.
-use borrow.Author.Rules.{rules}
-use borrow.Author.Tests.{eqb-true}
-use mathlib.Core.Path.{◌≡◌, refl, sym, ap, ◌∙◌}
-use mathlib.Core.Logic.{⊎_elim}
+use mathlib.Core.Path.{◌≡◌}
 use mathlib.Core.Bool.{true}
 use Prim.Native.Nat.{◌≤◌, ◌-◌}
-use native.Mathlib.Omega.{arith}
 use lib.ListN.{length, take}
-use lib.Seq.{take_all}
 use Rattle.lines.specs.Feeds.{feedless}
-use Rattle.lines.proofs.Feeding.{feedless_more}
 use Rattle.lines.proofs.line_ends.plain.Given as goal
 
 abbrev pub invariant-loop-i : goal.invariant-loop-i

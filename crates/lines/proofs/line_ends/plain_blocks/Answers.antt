@@ -1,10 +1,6 @@
-use borrow.Author.Rules.{rules}
 use borrow.Author.Tests.{not-false}
-use mathlib.Core.Path.{◌≡◌, refl}
-use mathlib.Core.Bool.{true}
-use Prim.Native.Nat.{◌≤◌, ◌-◌}
+use mathlib.Core.Path.{refl}
 use native.Mathlib.Omega.{arith}
-use lib.ListN.{length, take}
 use Rattle.lines.specs.Feeds.{feedless}
 use Rattle.lines.proofs.Feeding.{feedless_block}
 use Rattle.lines.proofs.line_ends.plain_blocks.Goals as goal

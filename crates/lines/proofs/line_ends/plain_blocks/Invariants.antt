@@ -1,13 +1,9 @@
 -- `lines::line_ends::plain_blocks` meets its contract. The invariant: no line feed was passed. Assumes nothing.
-use borrow.Author.Rules.{rules}
-use borrow.Author.Tests.{not-false}
-use mathlib.Core.Path.{◌≡◌, refl}
+use mathlib.Core.Path.{◌≡◌}
 use mathlib.Core.Bool.{true}
 use Prim.Native.Nat.{◌≤◌, ◌-◌}
-use native.Mathlib.Omega.{arith}
 use lib.ListN.{length, take}
 use Rattle.lines.specs.Feeds.{feedless}
-use Rattle.lines.proofs.Feeding.{feedless_block}
 use Rattle.lines.proofs.line_ends.plain_blocks.Given as goal
 
 abbrev pub invariant-loop-i : goal.invariant-loop-i

@@ -1,5 +1,4 @@
 -- `beginning::clear` meets its contract.
-use borrow.Author.Rules.{rules}
 use Rattle.link.specs.Beginning.{cleared}
 use Rattle.link.proofs.beginning.clear.Goals as goal
 

@@ -1,5 +1,4 @@
 -- `beginning::first_head` meets its contract.
-use borrow.Author.Rules.{rules}
 use Rattle.link.specs.Beginning.{head_first}
 use Rattle.link.proofs.beginning.first_head.Goals as goal
 

@@ -1,5 +1,4 @@
 -- `beginning::is_sized` meets its contract.
-use borrow.Author.Rules.{rules}
 use Rattle.link.specs.Beginning.{sized_is}
 use Rattle.link.proofs.beginning.is_sized.Goals as goal
 

@@ -1,5 +1,4 @@
 -- `beginning::set_up` meets its contract.
-use borrow.Author.Rules.{rules}
 use borrow.Author.Tests.{not-true, not-false}
 use Rattle.memory.specs.End.{lent}
 use Rattle.link.specs.Beginning.{names_long, refused_sizes, refused_names, set_up_done}

@@ -1,5 +1,4 @@
 -- `dispatch::refuse` meets its contract.
-use borrow.Author.Rules.{rules}
 use mathlib.Core.Path.{refl, sym, ◌∙◌}
 use mathlib.Core.Bool.{false≢true}
 use Rattle.link.proofs.dispatch.refuse.Goals as goal

@@ -1,5 +1,4 @@
 -- `dispatch::send_draft` meets its contract.
-use borrow.Author.Rules.{rules}
 use Rattle.hearing.specs.Settles.{kept_read}
 use Rattle.link.proofs.dispatch.send_draft.Goals as goal
 

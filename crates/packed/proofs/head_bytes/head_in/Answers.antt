@@ -1,5 +1,4 @@
 -- `packed::head_bytes::head_in` meets its contract.
-use borrow.Author.Rules.{rules}
 use native.Mathlib.Omega.{arith}
 use Rattle.packed.specs.Head.{head_of, bytes_back}
 use Rattle.packed.proofs.head_bytes.head_in.Goals as goal

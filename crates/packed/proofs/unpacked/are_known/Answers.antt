@@ -1,5 +1,4 @@
 -- `packed::unpacked::are_known` meets its contract.
-use borrow.Author.Rules.{rules}
 use mathlib.Core.Bool.{◌&&◌}
 use lib.Dec.{leb}
 use Rattle.packed.specs.Packed.{known}

@@ -1,5 +1,4 @@
 -- `packed::unpacked::figures_in` meets its contract.
-use borrow.Author.Rules.{rules}
 use mathlib.Core.Path.{ap, ◌∙◌}
 use Rattle.message.specs.Numbered.{numbered_form}
 use Rattle.packed.proofs.unpacked.figures_in.Goals as goal

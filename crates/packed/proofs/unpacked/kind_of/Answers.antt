@@ -1,5 +1,4 @@
 -- `packed::unpacked::kind_of` meets its contract.
-use borrow.Author.Rules.{rules}
 use mathlib.Core.Path.{sym, ap, ◌∙◌}
 use mathlib.Core.Bool.{Bool, cond}
 use Rattle.message.specs.declared.Kind.TheVariants.{None}

@@ -1,5 +1,4 @@
 -- `packed::unpacked::level_in` meets its contract.
-use borrow.Author.Rules.{rules}
 use mathlib.Core.Path.{ap, ◌∙◌}
 use Rattle.message.specs.Numbered.{numbered_level}
 use Rattle.packed.proofs.unpacked.level_in.Goals as goal

@@ -1,5 +1,4 @@
 -- `packed::unpacked::number_in` meets its contract.
-use borrow.Author.Rules.{rules}
 use Rattle.packed.proofs.unpacked.number_in.Goals as goal
 
 pub returns : goal.returns

@@ -1,5 +1,4 @@
 -- `packed::unpacked::plan_figures_in` meets its contract.
-use borrow.Author.Rules.{rules}
 use Rattle.packed.proofs.unpacked.plan_figures_in.Goals as goal
 
 pub returns : goal.returns

@@ -1,5 +1,4 @@
 -- `packed::unpacked::take` meets its contract.
-use borrow.Author.Rules.{rules}
 use Rattle.packed.specs.Packed.{record_by}
 use Rattle.packed.proofs.unpacked.take.Goals as goal
 

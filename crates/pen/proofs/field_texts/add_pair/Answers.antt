@@ -1,5 +1,4 @@
 -- `pen::field_texts::add_pair` meets its contract.
-use borrow.Author.Rules.{rules}
 use mathlib.Core.Path.{sym, ◌∙◌}
 use mathlib.Core.List.{[], ◌∷◌, append-nil}
 use native.Mathlib.Omega.{arith}

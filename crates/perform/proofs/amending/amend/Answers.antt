@@ -1,5 +1,4 @@
 -- `amending::amend` meets its contract.
-use borrow.Author.Rules.{rules}
 use native.Mathlib.Omega.{arith}
 use Rattle.perform.specs.Changing.{then}
 use Rattle.perform.proofs.amending.amend.Goals as goal

@@ -1,7 +1,6 @@
 -- `amending::amend_07` meets its contract.
 use mathlib.Core.Path.{ap}
 use native.Mathlib.Omega.{arith}
-use borrow.Author.Rules.{rules}
 use lib.ListN.{length}
 use Rattle.reader.specs.Reading.{cut}
 use Rattle.perform.specs.Changing.{field_parts}

@@ -1,5 +1,4 @@
 -- `filing::enter` meets its contract.
-use borrow.Author.Rules.{rules}
 use Rattle.flights.specs.Flight.{active}
 use Rattle.flights.specs.Made.{byte_active}
 use Rattle.perform.proofs.filing.enter.Goals as goal

@@ -1,5 +1,4 @@
 -- `filing::file` meets its contract.
-use borrow.Author.Rules.{rules}
 use Rattle.flights.specs.Made.{made_begin}
 use Rattle.deeds.specs.Message.{message_of}
 use Rattle.perform.specs.Changing.{filed_anew}

@@ -1,5 +1,4 @@
 -- `putting::put_given` meets its contract.
-use borrow.Author.Rules.{rules}
 use mathlib.Core.Path.{◌∙◌}
 use Rattle.perform.specs.Changing.{kept_where_none, written_where_some}
 use Rattle.perform.proofs.putting.put_given.Goals as goal

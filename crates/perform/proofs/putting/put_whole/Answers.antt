@@ -1,5 +1,4 @@
 -- `putting::put_whole` meets its contract.
-use borrow.Author.Rules.{rules}
 use mathlib.Core.Path.{ap, ◌∙◌}
 use Prim.Native.Nat.{◌+◌, ◌*◌}
 use Rattle.splice.specs.Splice.{splice}

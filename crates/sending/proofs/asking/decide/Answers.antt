@@ -1,5 +1,4 @@
 -- `asking::decide` meets its contract.
-use borrow.Author.Rules.{rules}
 use mathlib.Core.Path.{◌∙◌}
 use Rattle.flights.specs.Decoded.{flights_in}
 use Rattle.deeds.specs.Message.{message_of}

@@ -1,5 +1,4 @@
 -- `asking::is_filled` meets its contract.
-use borrow.Author.Rules.{rules}
 use native.Mathlib.Omega.{arith}
 use borrow.Author.Tests.{not-true, not-false}
 use Rattle.deeds.specs.Message.{message_of}

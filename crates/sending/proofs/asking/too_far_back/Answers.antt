@@ -1,9 +1,7 @@
 use borrow.Author.Rules.{rules}
-use mathlib.Core.Path.{◌≡◌, sym, ap, ◌∙◌}
-use Prim.Native.Nat.{◌≤◌, ◌-◌}
-use Rattle.memory.specs.End.{waiting_in}
+use mathlib.Core.Path.{sym, ap, ◌∙◌}
 use Rattle.rules.specs.Sending.{any_waiting, too_old}
-use Rattle.sending.specs.Asked.{rest_of, rest_all, any_here, any_next, any_none}
+use Rattle.sending.specs.Asked.{rest_all, any_here, any_next, any_none}
 use Rattle.sending.proofs.asking.too_far_back.Goals as goal
 
 pub loop-i-init : goal.loop-i-init

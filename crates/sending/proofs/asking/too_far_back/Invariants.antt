@@ -1,10 +1,9 @@
 -- `asking::too_far_back` meets its contract.
-use borrow.Author.Rules.{rules}
-use mathlib.Core.Path.{◌≡◌, sym, ap, ◌∙◌}
+use mathlib.Core.Path.{◌≡◌}
 use Prim.Native.Nat.{◌≤◌, ◌-◌}
 use Rattle.memory.specs.End.{waiting_in}
 use Rattle.rules.specs.Sending.{any_waiting, too_old}
-use Rattle.sending.specs.Asked.{rest_of, rest_all, any_here, any_next, any_none}
+use Rattle.sending.specs.Asked.{rest_of}
 use Rattle.sending.proofs.asking.too_far_back.Given as goal
 
 abbrev pub invariant-loop-i : goal.invariant-loop-i

@@ -1,5 +1,4 @@
 -- `handing::accept` meets its contract.
-use borrow.Author.Rules.{rules}
 use borrow.Author.Tests.{not-true, not-false}
 use Rattle.deeds.specs.Message.{message_of}
 use Rattle.sending.specs.Sent.{not_accepted, was_accepted, accepts}

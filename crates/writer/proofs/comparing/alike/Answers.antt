@@ -1,5 +1,4 @@
 -- `writer::comparing::alike` meets its contract.
-use borrow.Author.Rules.{rules}
 use Rattle.scan.specs.Bools.{decides_by}
 use Rattle.writer.specs.Comparing.{lengths_same, records_alike}
 use Rattle.writer.proofs.comparing.alike.Goals as goal

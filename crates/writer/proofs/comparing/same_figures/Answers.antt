@@ -1,5 +1,4 @@
 -- `writer::comparing::same_figures` meets its contract.
-use borrow.Author.Rules.{rules}
 use Rattle.writer.specs.Comparing.{figures_same}
 use Rattle.writer.proofs.comparing.same_figures.Goals as goal
 

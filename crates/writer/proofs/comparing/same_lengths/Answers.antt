@@ -1,5 +1,4 @@
 -- `writer::comparing::same_lengths` meets its contract.
-use borrow.Author.Rules.{rules}
 use Rattle.writer.specs.Comparing.{all_even}
 use Rattle.writer.proofs.comparing.same_lengths.Goals as goal
 

@@ -1,5 +1,4 @@
 -- `writer::comparing::same_level` meets its contract.
-use borrow.Author.Rules.{rules}
 use Rattle.scan.specs.Bools.{decides_by}
 use Rattle.writer.specs.Comparing.{level_same}
 use Rattle.writer.proofs.comparing.same_level.Goals as goal

@@ -1,5 +1,4 @@
 -- `writer::comparing::same_plan_figures` meets its contract.
-use borrow.Author.Rules.{rules}
 use Rattle.writer.specs.Comparing.{plan_figures_same}
 use Rattle.writer.proofs.comparing.same_plan_figures.Goals as goal
 
