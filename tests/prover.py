@@ -1,5 +1,5 @@
 """What the scripts share that call the prover by themselves: the crates of the tree, and the words by which `rattle` is told on what a crate
-rests. Where `rt ci` has left the libraries below it, these are taken as it proved them, and else from their sources."""
+rests."""
 import pathlib
 import re
 import subprocess
@@ -30,20 +30,23 @@ def is_left(crate):
     return all(path.stat().st_mtime <= rlib.stat().st_mtime for path in files)
 
 
+def are_there(crates):
+    """Whether the libraries of some crates, from the ground up, are there: as `rt ci` left them, or else as `rt lib` makes them of what checks
+    have kept."""
+    return all(map(is_left, crates)) or all(
+        subprocess.run(["rt", "lib"], cwd=ROOT / "crates" / crate, stdout=subprocess.DEVNULL).returncode == 0 for crate in crates)
+
+
 def words(crate, root, uses, below):
     """The words that name a crate, its root file and what it rests on: the crates that it uses, and all those below it."""
     said = ["--crate-name", crate, root, "--extern", f"std={KIT}/rlibs/std.rlib", "-L", f"dependency={KIT}/rlibs"]
     of_kit = sorted({name for one in below for name in LISTED[one] if name not in LISTED})
     for name in of_kit:
         said += ["--extern", f"{name}={KIT}/rlibs/{name}.rlib"]
-    if all(map(is_left, below)):
-        for name in uses:
-            said += ["--extern", f"{name}={library(name)}"]
-        for name in below:
-            said += ["-L", f"dependency={library(name).parent}"]
-    else:
-        for name in below:
-            said += ["--lib", f"{name}:{','.join(['std', *LISTED[name]])}={ROOT}/crates/{name}/src/lib.rt"]
+    for name in uses:
+        said += ["--extern", f"{name}={library(name)}"]
+    for name in below:
+        said += ["-L", f"dependency={library(name).parent}"]
     return [*said, "--antt-project", f"{KIT}/rattle/logic/antt-project.json", "--logic-built", f"{KIT}/logic_built"]
 
 
