@@ -12,7 +12,7 @@ class Bad(Exception):
 
 class Edit:
     def __init__(self, path, words):
-        self.name = path.stem
+        self.path, self.name = path, path.stem
         self.pairs = []
         self.said = dict.fromkeys(words, "")
         file = old = None
