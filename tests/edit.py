@@ -17,7 +17,8 @@ class Edit:
         self.said = dict.fromkeys(words, "")
         file = old = None
         for text in path.read_text(encoding="utf-8").splitlines():
-            key, _, value = text.removeprefix("# ").partition(": ")
+            key, _, value = text.removeprefix("# ").partition(":")
+            value = value.removeprefix(" ")
             if not text or text.startswith("#") and key not in words:
                 continue
             if key == "file":
