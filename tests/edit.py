@@ -3,7 +3,7 @@
   file: the file that is changed
   old: text that is there once
   new: what stands there instead (`old:` and `new:`, or all three, as often as needed)
-  WORD: TEXT, for each word that those who try the edit ask for"""
+  WORD: TEXT, for each word that those who try the edit ask for; also behind "# ", where the line is for a reader who passes over it"""
 
 
 class Bad(Exception):
@@ -12,14 +12,15 @@ class Bad(Exception):
 
 class Edit:
     def __init__(self, path, words):
-        self.name = path.stem
+        self.path, self.name = path, path.stem
         self.pairs = []
         self.said = dict.fromkeys(words, "")
         file = old = None
         for text in path.read_text(encoding="utf-8").splitlines():
-            if text.startswith("#") or not text:
+            key, _, value = text.removeprefix("# ").partition(":")
+            value = value.removeprefix(" ")
+            if not text or text.startswith("#") and key not in words:
                 continue
-            key, _, value = text.partition(": ")
             if key == "file":
                 file = value
             elif key == "old":
