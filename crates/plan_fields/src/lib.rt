@@ -12,7 +12,7 @@ use fields::{Found07, Found08, Found09, Found10, Found13, Found15, Found16, Foun
 use scan::{Class, Scan, Span};
 
 // Whether a whole number stands at `at`. One test for all twelve bytes costs less than one for each piece.
-pub fn numbered(s: &[u8], at: usize) -> bool
+fn numbered(s: &[u8], at: usize) -> bool
     ensures { result ≡ true → Numbered s.now at }
 {
     if s.len() < 12 {

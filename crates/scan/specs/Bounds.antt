@@ -1,13 +1,12 @@
 -- How far a scan goes, whatever its grammar, and that a text longer than the longest one is judged by its beginning.
-use Rattle.std.specs.Prelude.{◌≡◌, refl, ◌⊎◌, Bool, true, false, cond, ◌&&◌, List, ◌++◌, ℕ, zero, suc, ◌+◌, ◌-◌, ◌%◌, ◌≤◌, ◌<◌, max, length, get_or, take, ltb, eqb}
-use Rattle.std.proofs.Common.{ap, inl, inr, ⊎_elim, arith, length-append, length-take, take-take, take_all, length-take-le, ltb-true}
+use Rattle.std.specs.Prelude.{◌≡◌, refl, Bool, true, false, cond, ◌&&◌, List, ◌++◌, ℕ, zero, suc, ◌+◌, ◌-◌, ◌%◌, ◌≤◌, ◌<◌, max, length, get_or, take, ltb, eqb}
+use Rattle.std.proofs.Common.{ap, ⊎_elim, arith, length-append, length-take, take-take, take_all, length-take-le}
 use Rattle.scan.specs.declared.Scan.{Scan}
 use Rattle.scan.specs.declared.Class.{Class}
 use Rattle.scan.specs.declared.Class.TheVariants.{Word, Byte}
 use Rattle.scan.specs.Grammar.{Span, span, is_in, G, eps, run, words, seq, alt, part, field, Derives, Refusal, none}
 use Rattle.scan.specs.Scanner.{run_at, run_scan, words_at, words_scan, leads, scan, scan_at, among, occurs, between, span_by, span_of, between16, spot}
 use Rattle.scan.specs.Tests.{good, longest}
-use Rattle.scan.specs.Bools.{known}
 use Rattle.scan.specs.Theory.{skip, place}
 use Rattle.scan.specs.Parts.{longer_is}
 
@@ -78,40 +77,6 @@ forth g s r q e = rw e (scan_forth g s r)
 
 pub scan_short : (g : G) (s : List ℕ) (r : Scan) → (scan g s r).next ≤ r.next + longest g
 scan_short g s r = (scan_within g s r).1
-
--- no scan goes past the end of the text
-
-run_inside : (c : Class) (k : ℕ) (s : List ℕ) (at : ℕ) → at ≤ length s → run_at c k s at ≤ length s
-unfolding run_at
-run_inside c zero s at h = h
-run_inside c (suc k) s at h = go (run_inside c k s (at + 1)) (known (ltb at (length s)))
-  where
-    go : (at + 1 ≤ length s → run_at c k s (at + 1) ≤ length s) → (ltb at (length s) ≡ true) ⊎ (ltb at (length s) ≡ false) → run_at c (suc k) s at ≤ length s
-    go r (inl e) = either (λ (i : ℕ). i ≤ length s) (ltb at (length s) && is_in c (get_or s at 0)) _ at (r (omega (arith, ltb-true at (length s) e))) h
-    go r (inr e) = rw e h
-
-words_inside : (k : ℕ) (m : Bool) (s : List ℕ) (at : ℕ) → at ≤ length s → (words_at k m s at).next ≤ length s
-unfolding words_at
-words_inside zero m s at h = h
-words_inside (suc k) m s at h = go (λ b. words_inside k b s (at + 1)) (known (ltb at (length s)))
-  where
-    go : ((b : Bool) → at + 1 ≤ length s → (words_at k b s (at + 1)).next ≤ length s) → (ltb at (length s) ≡ true) ⊎ (ltb at (length s) ≡ false) → (words_at (suc k) m s at).next ≤ length s
-    go r (inl e) =
-        let P : Scan → Type 0 = λ q. q.next ≤ length s in
-        let x : ℕ = get_or s at 0 in
-        let l : at + 1 ≤ length s = omega (arith, ltb-true at (length s) e) in
-        either P (ltb at (length s) && is_in Word x) _ _ (r true l) (either P (ltb at (length s) && (m && is_in (Byte 32) x) && ltb 0 k) _ _ (r false l) h)
-    go r (inr e) = rw e h
-
-pub scan_inside : (g : G) (s : List ℕ) (r : Scan) → r.next ≤ length s → (scan g s r).next ≤ length s
-unfolding run_scan words_scan
-scan_inside eps s r h = h
-scan_inside (run c lo hi) s r h = either (λ (q : Scan). q.next ≤ length s) r.ok _ r (run_inside c hi s r.next h) h
-scan_inside (words k) s r h = either (λ (q : Scan). q.next ≤ length s) r.ok _ r (words_inside k false s r.next h) h
-scan_inside (seq a b) s r h = scan_inside b s (scan a s r) (scan_inside a s r h)
-scan_inside (alt a b) s r h = rw longer_is (either (λ (q : Scan). q.next ≤ length s) (leads (scan a s r) (scan b s r)) (scan a s r) (scan b s r) (scan_inside a s r h) (scan_inside b s r h))
-scan_inside (part n g) s r h = scan_inside g s r h
-scan_inside (field ns g) s r h = scan_inside g s r h
 
 -- 32 bits hold the parts of a text that is not too long
 pub spot_same : (n : ℕ) (g : G) (s : List ℕ) (r : Scan) → r.next + longest g < 65536 → spot n g s r ≡ span_of n g s r

@@ -1,0 +1,5 @@
+pub mod Values
+pub mod Locals
+pub mod Passing
+pub mod Onward
+pub mod Lent
