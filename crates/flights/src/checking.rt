@@ -1,5 +1,5 @@
 // Whether the bytes of one place of a table are well formed.
-ghost use Rattle.std.specs.Prelude.{◌≡◌, ◌<◌, length};
+ghost use Rattle.std.specs.Prelude.{◌≡◌, length};
 ghost use Rattle.scan.specs.Bools.{Decides};
 ghost use Rattle.scan.specs.declared.Class.TheVariants.{Octal, Alnum};
 ghost use Rattle.scan.specs.Grammar.{Derives, run};
