@@ -11,7 +11,7 @@ use Rattle.scan.specs.Bools.{and_l, and_r}
 use Rattle.scan.specs.Laws.{scan_alike, twice, one_on, run_spanned}
 use Rattle.fields.specs.Fields.{in_numbered}
 use Rattle.fields.specs.Found.{found_number}
-use Rattle.scan.specs.Parts.{whole as IsWhole_from}
+use Rattle.scan.specs.Parts.{whole as whole_from}
 
 -- the pieces of a whole number that stands at a place
 pub record Numbered (s : List ℕ) (at : ℕ) : Type 0 where
@@ -50,5 +50,5 @@ module _ (s : List ℕ) (r : Scan) (o : r.ok ≡ true) (n : Numbered s r.next) w
   pub numbered_spans : (x y z : Span) → x ≡ between16 r (from (at + 4)) → y ≡ between16 (from (at + 5)) (from (at + 9)) → z ≡ between16 (from (at + 9)) (from (at + 12)) → record { end = from (at + 12); sender = x; receiver = y; digits = z } ≡ found_number s r
   unfolding in_numbered occurs span_by among
   numbered_spans x y z e f g =
-      let a : scan (run Letter 4 4) s r ≡ from (at + 4) = ap (scan (run Letter 4 4) s) (IsWhole_from r o) ∙ n.sender in
+      let a : scan (run Letter 4 4) s r ≡ from (at + 4) = ap (scan (run Letter 4 4) s) (whole_from r o) ∙ n.sender in
       rw (e, f, g, a, n.slash, n.receiver, n.digits)

@@ -50,7 +50,8 @@ pub(crate) fn hear_on(
     let v = rules::answer_to(deeds::deed_of(w, r), c);
     let mut text = [0u8; 50];
     let k = response::lay_answer(&mut text, w, r, v);
-    if out.len() < k {
+    let room = out.len();
+    if room < k {
         return Outcome {
             answer: Answer::NoRoom,
             head: h,

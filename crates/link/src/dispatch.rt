@@ -71,7 +71,8 @@ pub fn send(
         };
     }
     let k = r.kind;
-    if unanswered::is_answer(k) {
+    let answer = unanswered::is_answer(k);
+    if answer {
         return refuse(h, unanswered);
     }
     let ours = h.ours;

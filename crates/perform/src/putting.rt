@@ -30,7 +30,8 @@ pub(crate) fn put_whole(
     requires { (i < places table.old) × (at + width ≤ 768) × (length lead.now ≤ width) × (at2 + width2 ≤ 768) × (length rest.now ≤ width2) }
     ensures { table.new ≡ with_field lead.now (splice (i * 768 + at2) (padded width2 rest.now) (splice (i * 768 + at) (padded width lead.now) table.old)) table.old }
 {
-    if lead.len() == 0 {
+    let given = lead.len();
+    if given == 0 {
         return;
     }
     flights::set_text(table, i, at, width, lead);

@@ -20,9 +20,9 @@ lay_answer-k-requires c =
     let m = message_of a.w.now a.r in
     (h.0, omega arith, omega (arith, subst (λ (x : ℕ). x < 100) (sym (c.answer_to-v.ensures ∙ (λ j. answer_to (c.deed_of.ensures j) (c.decide-c.ensures j)))) (answer_small (deed_of m) (decision m (flights_in a.table.now)))))
 
-pub returns-then-out-k : goal.returns-then-out-k
-returns-then-out-k c =
-    does_none (c.answer_to-v.ensures ∙ (λ j. answer_to (c.deed_of.ensures j) (c.decide-c.ensures j))) c.lay_answer-k.ensures c.if-out-k.true refl
+pub returns-then-room-k : goal.returns-then-room-k
+returns-then-room-k c =
+    does_none (c.answer_to-v.ensures ∙ (λ j. answer_to (c.deed_of.ensures j) (c.decide-c.ensures j))) c.lay_answer-k.ensures c.if-room-k.true refl
 
 pub slice_bounds-reply-end : goal.slice_bounds-reply-end
 slice_bounds-reply-end c =
@@ -32,8 +32,8 @@ pub reply-requires : goal.reply-requires
 reply-requires c =
     let h = c.requires in
     let a = c.args in
-    (h.2, h.3, number_small a.w.now a.r h.0, laid_fits _ c.lay_answer-k.ensures c.if-out-k.false)
+    (h.2, h.3, number_small a.w.now a.r h.0, laid_fits _ c.lay_answer-k.ensures c.if-room-k.false)
 
 pub returns : goal.returns
 returns c =
-    does_room (c.answer_to-v.ensures ∙ (λ j. answer_to (c.deed_of.ensures j) (c.decide-c.ensures j))) c.lay_answer-k.ensures c.if-out-k.false c.follow.ensures c.reply.ensures
+    does_room (c.answer_to-v.ensures ∙ (λ j. answer_to (c.deed_of.ensures j) (c.decide-c.ensures j))) c.lay_answer-k.ensures c.if-room-k.false c.follow.ensures c.reply.ensures
