@@ -1,5 +1,4 @@
 -- `sending::see` meets its contract.
--- what is shown, once it is told which it is
 use borrow.Author.Tests.{not-true, not-false}
 use mathlib.Core.Path.{◌≡◌, sym, subst}
 use mathlib.Core.Bool.{Bool, true}
@@ -19,6 +18,7 @@ use Rattle.sending.specs.Survey.{sees_broken, sees_empty, sees_message}
 use Rattle.sending.proofs.see.Goals as goal
 use Rattle.sending.proofs.see.Goals.{After-look-l, After-is_proper}
 
+-- what is shown, once it is told which it is
 shown_as : (c : After-look-l) (x : Shown) → c.look-l.result ≡ x → ShowsAt c.args.u.now c.args.i x
 shown_as c x e = subst (ShowsAt c.args.u.now c.args.i) e c.look-l.ensures
 

@@ -1,5 +1,4 @@
 -- `unanswered::is_formed` meets its contract.
--- what is shown, once it is told which it is
 use mathlib.Core.Path.{◌≡◌, subst}
 use mathlib.Core.List.{List}
 use Prim.Native.Nat.{ℕ}
@@ -11,6 +10,7 @@ use Rattle.unanswered.specs.Formed.{broken_at, empty_at, proper_at}
 use Rattle.unanswered.proofs.is_formed.Goals as goal
 use Rattle.unanswered.proofs.is_formed.Goals.{After-look-l}
 
+-- what is shown, once it is told which it is
 shown_as : (c : After-look-l) (x : Shown) → c.look-l.result ≡ x → ShowsAt c.args.t.now c.args.i x
 shown_as c x e = subst (ShowsAt c.args.t.now c.args.i) e c.look-l.ensures
 
