@@ -108,7 +108,7 @@ module _ (key : List ℕ) (x next : G) (s : List ℕ) (r a : Scan) (pa : a ≡ s
 
   -- it is not, and no later one has
   number_stop : a.ok ≡ false → (o q : Found22) → o ≡ found22 next s r → o.end.next < a.next → q ≡ nothing22 a → q ≡ found22 (alt (lit key ⨾ x) next) s r
-  unfolding found22 nothing22 span_by
+  unfolding found22 span_by
   number_stop e o q po h pq =
       let k : Scan = scan (lit key) s r in
       let f = so a k false pa e in
@@ -179,7 +179,7 @@ key18 = 49 ∷ 56 ∷ 47 ∷ []
 
 -- 07 stands alone
 pub alone07 : (s : List ℕ) (r : Scan) (f : Found07) → f ≡ found07 n.amended s (scan (lit key07) s r) → with07 f (nothing22 f.end) ≡ found22 (lit key07 ⨾ g07 n.amended) s r
-unfolding found22 nothing22 among occurs span_by
+unfolding found22 among occurs span_by
 alone07 s r f h = ap {B = Found22} (λ (x : Found07). with07 x (nothing22 x.end)) h
 
 pub named22 : (s : List ℕ) (r : Scan) → found22 in_changes s r ≡ found22 changes s r
@@ -188,7 +188,6 @@ named22 s r = refl
 
 -- 07 and its parts
 pub with_07 : (s : List ℕ) (r a : Scan) (f : Found07) (p : Plan) → a ≡ scan (lit key07) s r → f ≡ found07 0 s a → p ≡ no_plan → record { end = f.end; plan = put n.code f.code (put n.aircraft f.aircraft p) } ≡ found22 (lit key07 ⨾ g07 n.amended) s r
-unfolding nothing22
 with_07 s r a f p pa pf pp = rw pp (alone07 s r f (is_amended found07 same07 key07 s r a f pa pf))
 
 pub named_tail : (s : List ℕ) (r : Scan) → found_tail in_changed s r ≡ found_tail changed s r

@@ -1,6 +1,7 @@
 -- What may stand in a CHG after field 16: its own field 18 or none, then one or more fields 22.
-use Rattle.std.specs.Prelude.{List, [], ◌∷◌, ℕ}
-use Rattle.scan.specs.Grammar.{G, alt, field}
+use Rattle.std.specs.Prelude.{List, [], ◌∷◌, ℕ, ◌-◌}
+use Rattle.scan.specs.Grammar.{G, run, words, alt, part, field}
+use Rattle.scan.specs.declared.Class.TheVariants.{Letter}
 use Rattle.scan.specs.Texts.{◌⨾◌, byte, opt, lit}
 use Rattle.fields.specs.Names.{amended, indicator, other}
 use Rattle.fields.specs.Fields.{◌─◌, g07, g08, g09, g10, g13, g15, g16, nothing18, three18, four18, g18, field_rules}
@@ -36,6 +37,10 @@ amended_parts = 33 ∷ 34 ∷ 35 ∷ 36 ∷ 37 ∷ 38 ∷ 39 ∷ 40 ∷ 41 ∷ 4
 
 abbrev pub changes : G
 changes = field amended_parts in_changes
+
+-- 18 that begins with n letters, 300 bytes at most
+unfoldable pub letters18 : ℕ → G
+letters18 n = part indicator (run Letter n n) ⨾ byte 47 ⨾ part other (words (299 - n))
 
 -- 18 or none, then one or more 22. The forms of 18 stand apart, since "0" may also begin a 22
 unfoldable pub in_changed : G

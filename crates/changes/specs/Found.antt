@@ -60,7 +60,11 @@ pub found22_same : (a b : G) (s : List ℕ) (r : Scan) → Same a b s r → foun
 unfolding found22
 found22_same a b s r p = sym (λ i. record { end = p.0 i; plan = plan_of (λ k. p.1 (n.amended + k) i) })
 
-unfoldable pub nothing22 : Scan → Found22
+-- what a scan that may end in these ways finds from r is what g finds there
+abbrev pub Finds : (Scan → Found22 → Type 0) → G → List ℕ → Scan → Type 0
+Finds post g s r = (t : Found22) → post r t → t ≡ found22 g s r
+
+abbrev pub nothing22 : Scan → Found22
 nothing22 r = record { end = r; plan = no_plan }
 
 -- a number is there up to a and no further: what the later ones find, unless they end before a
@@ -69,7 +73,7 @@ Past a later q = (a.next ≤ later.end.next → q ≡ later) × (later.end.next 
 
 -- where the scan before is not whole, nothing is found
 pub found22_stays : (g : G) (s : List ℕ) (r : Scan) → r.ok ≡ false → nothing22 r ≡ found22 g s r
-unfolding found22 nothing22
+unfolding found22
 found22_stays g s r e = sym (λ i. record { end = skip g s r e i; plan = plan_of (λ k. spot_stays (n.amended + k) g s r e i) })
 
 -- a hyphen and what follows it
@@ -79,7 +83,7 @@ opt_on g s r o = found22_same (opt (byte 45 ⨾ g)) (byte 45 ⨾ g) s r (behind 
 
 -- or nothing
 pub opt_off : (g : G) (s : List ℕ) (r : Scan) → (scan (byte 45) s r).ok ≡ false → nothing22 r ≡ found22 (opt (byte 45 ⨾ g)) s r
-unfolding found22 nothing22 span_by
+unfolding found22 span_by
 opt_off g s r e = go (known r.ok)
   where
     go : (r.ok ≡ true) ⊎ (r.ok ≡ false) → nothing22 r ≡ found22 (opt (byte 45 ⨾ g)) s r
@@ -94,7 +98,7 @@ plan_cond false f g = refl
 unfoldable pub found_tail : G → List ℕ → Scan → FoundTail
 found_tail g s r = record { end = scan g s r; indicator = spot n.indicator g s r; other = spot n.other g s r; plan = amended_plan (λ k. spot k g s r) }
 
-unfoldable pub either_found_tail : FoundTail → FoundTail → FoundTail
+abbrev pub either_found_tail : FoundTail → FoundTail → FoundTail
 either_found_tail a b = record {
   end = longer a.end b.end;
   indicator = cond (leads a.end b.end) a.indicator b.indicator;
@@ -103,7 +107,7 @@ either_found_tail a b = record {
 }
 
 pub found_tail_alt : (a b : G) (s : List ℕ) (r : Scan) → either_found_tail (found_tail a s r) (found_tail b s r) ≡ found_tail (alt a b) s r
-unfolding found_tail either_found_tail span_by
+unfolding found_tail span_by
 found_tail_alt a b s r = λ i. record {
   end = scan (alt a b) s r;
   indicator = spot n.indicator (alt a b) s r;

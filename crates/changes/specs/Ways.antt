@@ -1,13 +1,15 @@
 -- The ways to begin after field 16: which one is taken.
-use Rattle.std.specs.Prelude.{◌≡◌, ℕ, ◌+◌, ◌≤◌, List}
+use Rattle.std.specs.Prelude.{◌≡◌, refl, ℕ, ◌+◌, ◌≤◌, List}
 use Rattle.std.proofs.Math.Path.{ap}
 use Rattle.std.proofs.Common.{◌∙◌, arith}
 use Rattle.scan.specs.declared.Scan.{Scan}
 use Rattle.scan.specs.Grammar.{G}
-use Rattle.scan.specs.Scanner.{scan}
+use Rattle.scan.specs.Scanner.{scan, among, occurs, span_by}
+use Rattle.scan.specs.Bounds.{forth}
 use Rattle.scan.specs.Picks.{Same, same_trans, behind, outrun, picked}
+use Rattle.fields.specs.Fields.{◌─◌, in_three18, in_four18}
 use Rattle.changes.specs.declared.FoundTail.{FoundTail}
-use Rattle.changes.specs.Changes.{changes, in_changed, changed}
+use Rattle.changes.specs.Changes.{letters18, changes, in_changed, changed}
 use Rattle.changes.specs.Found.{found_tail, found_tail_same}
 use Rattle.changes.specs.Ascend.{named_tail}
 use Rattle.changes.specs.Keys.{nothing, three, four, lettered, owning, good_changes, good_nothing, good_three, good_four, good_lettered, good_owning, three_four, three_nothing, three_changes, four_three, four_nothing, four_changes, changes_owning, nothing_lettered, nothing_changes}
@@ -16,6 +18,22 @@ use Rattle.changes.specs.Keys.{nothing, three, four, lettered, owning, good_chan
 pub ends : (g : G) (s : List ℕ) (r : Scan) (q : FoundTail) → q ≡ found_tail g s r → q.end ≡ scan g s r
 unfolding found_tail
 ends g s r q e = ap (λ (x : FoundTail). x.end) e
+
+-- three or four letters by their count
+pub letters_three : (s : List ℕ) (r : Scan) → found_tail (letters18 3 ─ changes) s r ≡ found_tail three s r
+unfolding found_tail letters18 in_three18 among occurs span_by
+letters_three s r = refl
+
+pub letters_four : (s : List ℕ) (r : Scan) → found_tail (letters18 4 ─ changes) s r ≡ found_tail four s r
+unfolding found_tail letters18 in_four18 among occurs span_by
+letters_four s r = refl
+
+pub goes_on : (g : G) (s : List ℕ) (r : Scan) (q : FoundTail) → q ≡ found_tail g s r → r.next ≤ q.end.next
+goes_on g s r q e = forth g s r q.end (ends g s r q e)
+
+-- what a function returned, where its way is the one if it goes far enough
+pub far : (g : G) (k : ℕ) (s : List ℕ) (r : Scan) → (r.next + k ≤ (scan g s r).next → found_tail g s r ≡ found_tail changed s r) → (q : FoundTail) → q ≡ found_tail g s r → r.next + k ≤ q.end.next → q ≡ found_tail changed s r
+far g k s r way q e h = e ∙ way (omega (arith, h, ap (λ (x : Scan). x.next) (ends g s r q e)))
 
 module _ (s : List ℕ) (r : Scan) where
   -- three letters and a slash

@@ -1,8 +1,7 @@
 -- A MESSAGE APPLIED TO A TABLE OF FLIGHTS: where its flight is, whether it may be done, and what the table is afterwards.
 use Rattle.std.specs.Prelude.{Bool, true, false, cond, ℕ}
 use Rattle.std.proofs.Math.Option.{Option, none}
-use Rattle.places.specs.declared.Place.{Place}
-use Rattle.places.specs.declared.Place.TheVariants.{At, Nowhere}
+use Rattle.places.specs.Place.{Place, At, Nowhere}
 use Rattle.places.specs.Places.{Places, get, set, first_of, is_free}
 use Rattle.flights.specs.Flight.{Flight}
 use Rattle.flights.specs.Decoded.{keyed}

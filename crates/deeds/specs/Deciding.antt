@@ -8,8 +8,7 @@ use Rattle.std.proofs.Math.Option.{Option, none, some}
 use Rattle.message.specs.declared.Kind.{Kind}
 use Rattle.message.specs.declared.Kind.TheVariants.{Chg}
 use Rattle.message.specs.Record.{is_chg}
-use Rattle.places.specs.declared.Place.{Place}
-use Rattle.places.specs.declared.Place.TheVariants.{At, Nowhere}
+use Rattle.places.specs.Place.{Place, At, Nowhere}
 use Rattle.places.specs.Places.{get, found_below, found_has, is_free as is_none}
 use Rattle.places.specs.Stored.{get_places}
 use Rattle.flights.specs.Flight.{Flight, flight_of}

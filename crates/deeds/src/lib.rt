@@ -16,12 +16,11 @@ ghost use Rattle.deeds.specs.Applying.{nowhere, lowest_free, other, decided_at, 
 ghost use Rattle.places.specs.Places.{is_free as is_none};
 
 use message::{Kind, Record};
-use places::Place;
 use scan::Span;
 
 // What a message does: FPL files, CPL enters, CHG amends, EST estimates, CNL cancels, RTI offers, an RTA retracts or accepts.
 // An answer does nothing, nor does an RTA that refers to neither end.
-#[derive(Clone, Copy)]
+#[derive(Clone, Copy, PartialEq, Eq, Debug)]
 pub enum Deed {
     Files,
     Enters,
@@ -105,20 +104,11 @@ pub fn deed_of(w: &[u8], r: Record) -> Deed
 }
 
 // Whether it makes a flight.
+#[tactic(auto, unfolding(crate::specs::Deeds::makes))]
 pub fn makes(d: Deed) -> bool
     ensures { result ≡ makes_of d }
 {
-    match d {
-        Deed::Files => true,
-        Deed::Enters => true,
-        Deed::Amends => false,
-        Deed::Estimates => false,
-        Deed::Cancels => false,
-        Deed::Offers => false,
-        Deed::Retracts => false,
-        Deed::Accepts => false,
-        Deed::Nothing => false,
-    }
+    matches!(d, Deed::Files | Deed::Enters)
 }
 
 // A part of a field 22 where it is given, else the message's own.
@@ -133,12 +123,12 @@ fn or_own(w: &[u8], c: Span, own: Span) -> &[u8]
 }
 
 // Whether a place is where something is.
-fn is_nowhere(p: Place) -> bool
+fn is_nowhere(p: Option<usize>) -> bool
     ensures { result ≡ nowhere p }
 {
     match p {
-        Place::At(i) => false,
-        Place::Nowhere => true,
+        Some(i) => false,
+        None => true,
     }
 }
 
@@ -236,8 +226,8 @@ fn new_place(table: &[u8]) -> Decision
 {
     let p = flights::finding::lowest_free(table);
     match p {
-        Place::At(i) => Decision::Done(i),
-        Place::Nowhere => Decision::Full,
+        Some(i) => Decision::Done(i),
+        None => Decision::Full,
     }
 }
 
@@ -255,13 +245,13 @@ pub fn decide(table: &[u8], w: &[u8], r: Record) -> Decision
         reader::part_of(w, o.destination),
     );
     match p {
-        Place::At(i) => {
+        Some(i) => {
             if may_on(d, table, i, w, r) {
                 return Decision::Done(i);
             }
             Decision::Fails
         }
-        Place::Nowhere => {
+        None => {
             if makes(d) {
                 return new_place(table);
             }

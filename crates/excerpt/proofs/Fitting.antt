@@ -1,6 +1,7 @@
 -- The texts that are kept of a read message fit, and what laying them out leaves in a buffer.
-use Rattle.std.specs.Prelude.{◌≡◌, refl, true, List, [], ◌∷◌, ℕ, zero, suc, ◌≤◌, length, take, drop, leb}
-use Rattle.std.proofs.Common.{ap, ◌∙◌, ⊎_elim, arith, leb-true}
+use Rattle.std.specs.Prelude.{◌≡◌, refl, true, List, [], ◌∷◌, ℕ, zero, suc, ◌≤◌, length, take, drop, leb, Option, Some, None}
+use Rattle.std.specs.Option.{unwrap_or}
+use Rattle.std.proofs.Common.{ap, sym, subst, ◌∙◌, ⊎_elim, arith, leb-true}
 use Rattle.scan.specs.Bools.{known}
 use Rattle.scan.specs.declared.Class.TheVariants.{Letter, Octal, Alnum}
 use Rattle.scan.specs.Grammar.{Span, G, run, Derives}
@@ -11,9 +12,9 @@ use Rattle.fields.specs.Fields.{in08, in09, in10, timed, in14, in15, rest16, in1
 use Rattle.message.specs.declared.Record.{Record}
 use Rattle.message.specs.declared.Verdict.TheVariants.{Read}
 use Rattle.reader.specs.Reading.{Judged}
-use Rattle.pen.specs.declared.Pen.{Pen}
 use Rattle.pen.specs.Listed.{span_of}
-use Rattle.pen.specs.Laying.{join, Stands, AllInside, Adds, start, all_inside}
+use Rattle.pen.specs.declared.Pen.{Pen}
+use Rattle.pen.specs.Laying.{End, join, Stands, AllInside, Adds, start, end_of, Lays, lays_from_start, all_inside}
 use Rattle.compose.specs.Recorded.{its_inside}
 use Rattle.excerpt.specs.Excerpt.{Texts, texts_of, field14_of, Short, FitsIn, Fits14, Starts}
 use Rattle.excerpt.specs.Said.{Said, own_said, changes_said, field14_said}
@@ -82,7 +83,7 @@ module _ (w : List ℕ) (r : Record) (j : Judged w Read r) where
 at_start : (b : List ℕ) → Stands b start []
 at_start b = record { place = refl; fits = omega arith; bytes = refl }
 
-pub starts : {w b e : List ℕ} {r : Pen} {xs : List (List ℕ)} {qs : List Span} (t : List ℕ) → join xs ≡ t → length t ≤ length b → AllInside w qs → Adds w b start xs qs e r → Starts t b e r.at
+pub starts : {w b e : List ℕ} {r : End} {xs : List (List ℕ)} {qs : List Span} (t : List ℕ) → join xs ≡ t → length t ≤ length b → AllInside w qs → Adds w b start xs qs e r → Starts t b e r.at
 starts {w} {b} {e} {r} {xs} {qs} t i h q a =
     ⊎_elim
     (λ o.
@@ -96,3 +97,15 @@ starts {w} {b} {e} {r} {xs} {qs} t i h q a =
     })
     (λ o. absurd (omega (arith, a.off [] (at_start b) refl q o, ap length i)))
     (known r.ok)
+
+length_of : (o : Option ℕ) → unwrap_or o 0 ≡ (end_of o).at
+length_of None = refl
+length_of (Some n) = refl
+
+-- the same of a length that is 0 if nothing fitted
+pub fits : {w b e : List ℕ} {n : ℕ} {xs : List (List ℕ)} {qs : List Span} (o : Option ℕ) (t : List ℕ) → join xs ≡ t → length t ≤ length b → AllInside w qs → Adds w b start xs qs e (end_of o) → n ≡ unwrap_or o 0 → Starts t b e n
+fits {b = b} {e = e} o t i h q a m = subst (Starts t b e) (sym (m ∙ length_of o)) (starts t i h q a)
+
+-- what a pen laid out from the start of a buffer on, where e stands in it in the end
+pub laid : {w b e : List ℕ} {o : Option ℕ} {n : ℕ} {p r : Pen} {xs : List ℕ → List (List ℕ)} {qs : List Span} (t : List ℕ) → join (xs w) ≡ t → length t ≤ length b → AllInside w qs → p.source.now ≡ w → p.text.now ≡ b → p.end ≡ Some 0 → Lays p xs qs r → r.text.now ≡ e → o ≡ r.end → n ≡ unwrap_or o 0 → Starts t b e n
+laid {o = o} t i h q s k z a f g m = fits o t i h q (lays_from_start s k z a f (sym g)) m

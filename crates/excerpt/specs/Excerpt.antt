@@ -1,7 +1,7 @@
 -- The texts that a flight's record keeps of a message, field by field.
 use Rattle.std.specs.Prelude.{◌≡◌, List, [], ◌∷◌, ◌++◌, ℕ, ◌≤◌, length, take}
 use Rattle.changes.specs.declared.Plan.{Plan}
-use Rattle.types.specs.declared.Estimate.{Estimate}
+use Rattle.fields.specs.declared.Estimate.{Estimate}
 use Rattle.reader.specs.Reading.{cut}
 use Rattle.pen.specs.Laying.{AllInside, led_by, text_pair, text09, text10, text14, text15, text_alternates, text18}
 use Rattle.changes.specs.Found.{plan_spans}

@@ -19,57 +19,54 @@ pub fn text_in(w: &[u8], q: Span) -> &[u8]
 {
     let at = (q / 65536) as usize;
     let len = (q % 65536) as usize;
-    if len == 0 {
-        return &w[..0];
-    }
-    &w[at..at + len]
+    w.get(at..at + len).unwrap_or(&[])
 }
 
+// Each of these is a pen from its start to its end. One function that takes what lies between as a closure is no plainer: its contract
+// would name, as ghost values of each call, the blocks that the closure lays out and the parts in them.
 pub fn text_08(out: &mut [u8], w: &[u8], p: Plan) -> usize
     requires { FitsIn w.now p × (2 ≤ length out.old) }
     ensures { Starts (texts_of w.now p).field08 out.old out.new result }
 {
-    let q = Pen { at: 0, ok: true };
-    let r = pen::field_texts::add_pair(out, q, w, b"", p.rules, p.flight);
-    r.at
+    let mut pen = Pen::start(out, w);
+    pen.add_pair(b"", p.rules, p.flight);
+    pen.end.unwrap_or(0)
 }
 
 pub fn text_09(out: &mut [u8], w: &[u8], p: Plan) -> usize
     requires { FitsIn w.now p × (8 ≤ length out.old) }
     ensures { Starts (texts_of w.now p).field09 out.old out.new result }
 {
-    let q = Pen { at: 0, ok: true };
-    let r = pen::field_texts::add_09(out, q, w, b"", p.count, p.model, p.wake);
-    r.at
+    let mut pen = Pen::start(out, w);
+    pen.add_09(b"", p.count, p.model, p.wake);
+    pen.end.unwrap_or(0)
 }
 
 pub fn text_10(out: &mut [u8], w: &[u8], p: Plan) -> usize
     requires { FitsIn w.now p × (61 ≤ length out.old) }
     ensures { Starts (texts_of w.now p).field10 out.old out.new result }
 {
-    let q = Pen { at: 0, ok: true };
-    let r = pen::field_texts::add_10(out, q, w, b"", p.equipment, p.surveillance);
-    r.at
+    let mut pen = Pen::start(out, w);
+    pen.add_10(b"", p.equipment, p.surveillance);
+    pen.end.unwrap_or(0)
 }
 
 pub fn text_14(out: &mut [u8], w: &[u8], e: Estimate) -> usize
     requires { Fits14 w.now e × (27 ≤ length out.old) }
     ensures { Starts (field14_of w.now e) out.old out.new result }
 {
-    let q = Pen { at: 0, ok: true };
-    let r = pen::field_texts::add_14(
-        out, q, w, b"", e.point, e.over, e.crossing, e.second, e.sense,
-    );
-    r.at
+    let mut pen = Pen::start(out, w);
+    pen.add_14(b"", e.point, e.over, e.crossing, e.second, e.sense);
+    pen.end.unwrap_or(0)
 }
 
 pub fn text_15(out: &mut [u8], w: &[u8], p: Plan) -> usize
     requires { FitsIn w.now p × (300 ≤ length out.old) }
     ensures { Starts (texts_of w.now p).field15 out.old out.new result }
 {
-    let q = Pen { at: 0, ok: true };
-    let r = pen::field_texts::add_15(out, q, w, b"", p.speed, p.level, p.route);
-    r.at
+    let mut pen = Pen::start(out, w);
+    pen.add_15(b"", p.speed, p.level, p.route);
+    pen.end.unwrap_or(0)
 }
 
 // Field 16 from its fifth byte.
@@ -77,17 +74,17 @@ pub fn rest_16(out: &mut [u8], w: &[u8], p: Plan) -> usize
     requires { FitsIn w.now p × (14 ≤ length out.old) }
     ensures { Starts (texts_of w.now p).rest16 out.old out.new result }
 {
-    let q = Pen { at: 0, ok: true };
-    let q1 = pen::add_led(out, q, w, b"", p.elapsed);
-    let r = pen::field_texts::add_alternates(out, q1, w, p.alternate, p.alternate2);
-    r.at
+    let mut pen = Pen::start(out, w);
+    pen.add_led(b"", p.elapsed);
+    pen.add_alternates(p.alternate, p.alternate2);
+    pen.end.unwrap_or(0)
 }
 
 pub fn text_18(out: &mut [u8], w: &[u8], p: Plan) -> usize
     requires { FitsIn w.now p × (300 ≤ length out.old) }
     ensures { Starts (texts_of w.now p).field18 out.old out.new result }
 {
-    let q = Pen { at: 0, ok: true };
-    let r = pen::field_texts::add_18(out, q, w, b"", p.indicator, p.other);
-    r.at
+    let mut pen = Pen::start(out, w);
+    pen.add_18(b"", p.indicator, p.other);
+    pen.end.unwrap_or(0)
 }

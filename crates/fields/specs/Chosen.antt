@@ -272,3 +272,6 @@ module _ (s : List ℕ) (r : Scan) where
   pub four_18 : (scan (byte 48) s r).ok ≡ false → (scan key18 s r).ok ≡ false → found18_by (four18 0) s r ≡ found18 0 s r
   unfolding among occurs span_by
   four_18 o e = as18 (in18 0) (four18 0) s r (same_trans (in18 0) letters18 (four18 0) s r (letters_18 o) (four_over e))
+
+-- which arm each test of the code leaves
+pub ruleset choices = (hour_early, hour_late, level_three, level_four, bearing_low, bearing_high, bearing_360, nothing_18, three_18, four_18)

@@ -4,25 +4,28 @@ use Rattle.scan.specs.declared.Scan.{Scan}
 use Rattle.scan.specs.Grammar.{words, none}
 use Rattle.scan.specs.Texts.{◌⨾◌, byte}
 use Rattle.scan.specs.Scanner.{scan, among, occurs, between16, span_by, spot}
-use Rattle.fields.specs.declared.FoundNumber.{FoundNumber}
+use Rattle.fields.specs.declared.Found.{Found}
+use Rattle.fields.specs.declared.Number.{Number}
+use Rattle.fields.specs.declared.Estimate.{Estimate}
 use Rattle.fields.specs.declared.Found07.{Found07}
 use Rattle.fields.specs.declared.Found08.{Found08}
 use Rattle.fields.specs.declared.Found09.{Found09}
 use Rattle.fields.specs.declared.Found10.{Found10}
 use Rattle.fields.specs.declared.Found13.{Found13}
-use Rattle.fields.specs.declared.Found14.{Found14}
 use Rattle.fields.specs.declared.Found15.{Found15}
 use Rattle.fields.specs.declared.Found16.{Found16}
 use Rattle.fields.specs.declared.Found18.{Found18}
 use Rattle.fields.specs.Names as n
-use Rattle.fields.specs.Fields.{numbered, in07, g07, in08, g08, in09, g09, in10, g10, in13, g13, g13o, g14, after15, in15, g15, alternates, in16, g16, in_three18, in_four18, in18, g18}
+use Rattle.fields.specs.Fields.{in_numbered, numbered, in07, g07, in08, g08, in09, g09, in10, g10, in13, in13o, g13, g13o, g14, after15, in15, g15, alternates, in16, g16, in_three18, in_four18, in18, g18, in14, rest16}
 
-abbrev pub found_number : List ℕ → Scan → FoundNumber
+abbrev pub found_number : List ℕ → Scan → Found Number
 found_number s r = record {
   end = scan (numbered n.sender n.receiver n.number) s r;
-  sender = spot n.sender (numbered n.sender n.receiver n.number) s r;
-  receiver = spot n.receiver (numbered n.sender n.receiver n.number) s r;
-  digits = spot n.number (numbered n.sender n.receiver n.number) s r;
+  parts = record {
+    sender = spot n.sender (numbered n.sender n.receiver n.number) s r;
+    receiver = spot n.receiver (numbered n.sender n.receiver n.number) s r;
+    digits = spot n.number (numbered n.sender n.receiver n.number) s r;
+  };
 }
 
 abbrev pub found07 : ℕ → List ℕ → Scan → Found07
@@ -43,14 +46,16 @@ found13 o s r = record { end = scan (g13 o) s r; departure = spot (o + n.departu
 abbrev pub found13o : List ℕ → Scan → Found13
 found13o s r = record { end = scan g13o s r; departure = spot n.departure g13o s r; time = spot n.time g13o s r }
 
-abbrev pub found14 : List ℕ → Scan → Found14
+abbrev pub found14 : List ℕ → Scan → Found Estimate
 found14 s r = record {
   end = scan g14 s r;
-  point = spot n.point g14 s r;
-  over = spot n.over g14 s r;
-  crossing = spot n.crossing g14 s r;
-  second = spot n.second g14 s r;
-  sense = spot n.sense g14 s r;
+  parts = record {
+    point = spot n.point g14 s r;
+    over = spot n.over g14 s r;
+    crossing = spot n.crossing g14 s r;
+    second = spot n.second g14 s r;
+    sense = spot n.sense g14 s r;
+  };
 }
 
 -- a level from r to l, a blank and words of at most k bytes
@@ -126,3 +131,8 @@ same16 s r = refl
 pub same18 : (s : List ℕ) (r : Scan) → found18 n.amended s r ≡ found18 0 s r
 unfolding in18 in_three18 in_four18 among occurs span_by
 same18 s r = refl
+
+-- `unfolding found_rules` opens where the parts of every field stand, down to its pieces
+unfoldable pub found_rules : Unit {0}
+unfolding in_numbered in07 in08 in09 in10 in13 in13o in14 in15 alternates in16 rest16 in_three18 in_four18 in18 among occurs span_by
+found_rules = tt

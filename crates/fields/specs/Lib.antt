@@ -3,3 +3,4 @@ pub mod Fields
 pub mod Found
 pub mod Chosen
 pub mod Numbers
+pub mod Forth

@@ -47,7 +47,7 @@ module _ (s : List ℕ) (r : Scan) (o : r.ok ≡ true) (n : Numbered s r.next) w
   abbrev at : ℕ
   at = r.next
 
-  pub numbered_spans : (x y z : Span) → x ≡ between16 r (from (at + 4)) → y ≡ between16 (from (at + 5)) (from (at + 9)) → z ≡ between16 (from (at + 9)) (from (at + 12)) → record { end = from (at + 12); sender = x; receiver = y; digits = z } ≡ found_number s r
+  pub numbered_spans : (x y z : Span) → x ≡ between16 r (from (at + 4)) → y ≡ between16 (from (at + 5)) (from (at + 9)) → z ≡ between16 (from (at + 9)) (from (at + 12)) → record { end = from (at + 12); parts = record { sender = x; receiver = y; digits = z } } ≡ found_number s r
   unfolding in_numbered occurs span_by among
   numbered_spans x y z e f g =
       let a : scan (run Letter 4 4) s r ≡ from (at + 4) = ap (scan (run Letter 4 4) s) (whole_from r o) ∙ n.sender in

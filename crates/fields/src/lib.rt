@@ -1,5 +1,5 @@
 // Document 01's fields: each function mirrors the grammar of one field and notes where its parts stand.
-#![tactic(auto)]
+#![tactic(auto, using(crate::specs::Chosen::choices, crate::specs::Forth::goes_forth), unfolding(crate::specs::Fields::field_rules, crate::specs::Found::found_rules))]
 
 ghost use Rattle.std.specs.Prelude.{◌≡◌};
 ghost use Rattle.scan.specs.Scanner.{scan as scan_g};
@@ -8,15 +8,32 @@ ghost use Rattle.fields.specs.Found.{found18};
 
 use scan::{Scan, Span};
 
-// The parts of each field, and where it ends.
+// Where a scan ended, and the parts that it found.
 #[derive(Clone, Copy)]
-pub struct FoundNumber {
+pub struct Found<T> {
     pub end: Scan,
+    pub parts: T,
+}
+
+// The parts of a message number or a reference.
+#[derive(Clone, Copy, Default)]
+pub struct Number {
     pub sender: Span,
     pub receiver: Span,
     pub digits: Span,
 }
 
+// The parts of field 14.
+#[derive(Clone, Copy, Default)]
+pub struct Estimate {
+    pub point: Span,
+    pub over: Span,
+    pub crossing: Span,
+    pub second: Span,
+    pub sense: Span,
+}
+
+// The fields of a plan: their parts are copied into a plan one by one, and are no struct elsewhere, so each names them beside its end.
 #[derive(Clone, Copy)]
 pub struct Found07 {
     pub end: Scan,
@@ -51,16 +68,6 @@ pub struct Found13 {
     pub end: Scan,
     pub departure: Span,
     pub time: Span,
-}
-
-#[derive(Clone, Copy)]
-pub struct Found14 {
-    pub end: Scan,
-    pub point: Span,
-    pub over: Span,
-    pub crossing: Span,
-    pub second: Span,
-    pub sense: Span,
 }
 
 #[derive(Clone, Copy)]
@@ -101,10 +108,10 @@ fn hour(s: &[u8], r: Scan) -> Scan
 {
     let a = scan::in_range(s, r, b'0', b'1');
     if a.ok {
-        return scan::digit(s, a);
+        scan::digit(s, a)
+    } else {
+        scan::in_range(s, scan::byte(s, r, b'2'), b'0', b'3')
     }
-    let b = scan::byte(s, r, b'2');
-    scan::in_range(s, b, b'0', b'3')
 }
 
 pub fn minute(s: &[u8], r: Scan) -> Scan
@@ -127,10 +134,10 @@ pub fn level(s: &[u8], r: Scan) -> Scan
 {
     let a = scan::one_of(s, r, b'F', b'A', b'A', b'A', b'A');
     if a.ok {
-        return scan::digits(s, a, 3);
+        scan::digits(s, a, 3)
+    } else {
+        scan::digits(s, scan::one_of(s, r, b'S', b'M', b'M', b'M', b'M'), 4)
     }
-    let b = scan::one_of(s, r, b'S', b'M', b'M', b'M', b'M');
-    scan::digits(s, b, 4)
 }
 
 // 000 to 360.
@@ -139,14 +146,16 @@ pub fn bearing(s: &[u8], r: Scan) -> Scan
 {
     let a = scan::in_range(s, r, b'0', b'2');
     if a.ok {
-        return scan::digits(s, a, 2);
+        scan::digits(s, a, 2)
+    } else {
+        let c = scan::byte(s, r, b'3');
+        let d = scan::in_range(s, c, b'0', b'5');
+        if d.ok {
+            scan::digit(s, d)
+        } else {
+            scan::lit(s, c, b"60")
+        }
     }
-    let c = scan::byte(s, r, b'3');
-    let d = scan::in_range(s, c, b'0', b'5');
-    if d.ok {
-        return scan::digit(s, d);
-    }
-    scan::lit(s, c, b"60")
 }
 
 // Three letters and a slash leave no room for a fourth letter, and what stops three letters stops four.
@@ -155,28 +164,30 @@ pub fn field18(s: &[u8], r: Scan) -> Found18
 {
     let a = scan::byte(s, r, b'0');
     if a.ok {
-        return Found18 {
+        Found18 {
             end: a,
             indicator: scan::between(r, a),
             other: scan::none(),
-        };
-    }
-    let b = scan::letters(s, r, 3);
-    let c = scan::byte(s, b, b'/');
-    if c.ok {
-        let d = words::words(s, c, 296);
-        return Found18 {
-            end: d,
-            indicator: scan::between(r, b),
-            other: scan::between(c, d),
-        };
-    }
-    let e = scan::letters(s, r, 4);
-    let f = scan::byte(s, e, b'/');
-    let g = words::words(s, f, 295);
-    Found18 {
-        end: g,
-        indicator: scan::between(r, e),
-        other: scan::between(f, g),
+        }
+    } else {
+        let b = scan::letters(s, r, 3);
+        let c = scan::byte(s, b, b'/');
+        if c.ok {
+            let d = words::words(s, c, 296);
+            Found18 {
+                end: d,
+                indicator: scan::between(r, b),
+                other: scan::between(c, d),
+            }
+        } else {
+            let e = scan::letters(s, r, 4);
+            let f = scan::byte(s, e, b'/');
+            let g = words::words(s, f, 295);
+            Found18 {
+                end: g,
+                indicator: scan::between(r, e),
+                other: scan::between(f, g),
+            }
+        }
     }
 }

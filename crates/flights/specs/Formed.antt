@@ -1,13 +1,15 @@
 -- WELL FORMED TABLES, by document 01: 1 to 32 places, each well formed, and no two used flights share a key.
-use Rattle.std.specs.Prelude.{◌≡◌, refl, Bool, true, false, not, ◌&&◌, List, ℕ, ◌+◌, ◌-◌, ◌*◌, ◌≤◌, ◌<◌, length, take, drop, get_or}
+use Rattle.std.specs.Prelude.{◌≡◌, refl, Bool, true, false, not, ◌&&◌, List, [], ℕ, ◌+◌, ◌-◌, ◌*◌, ◌≤◌, ◌<◌, length, take, drop, get_or}
+use Rattle.std.specs.List.{All}
+use Rattle.std.specs.Simd.{first_chunks}
 use Rattle.std.proofs.Common.{sym, ap, ◌∙◌, subst, ⊎_elim, arith, length-drop, length-take-le, get_or-take, get_or-drop}
 use Rattle.std.proofs.lemmas.Bool.{false≢true, not-true}
 use Rattle.scan.specs.Bools.{known, Decides, decides_and, decides_as}
-use Rattle.places.specs.Below.{Below}
+use Rattle.places.specs.Chunks.{chunk_at}
 use Rattle.flights.specs.Padding.{padded, trimmed, padded_back}
 use Rattle.flights.specs.Flight.{flight_of, WellFormed}
 use Rattle.places.specs.Bytes.{same, same_is, word_at, free}
-use Rattle.flights.specs.Table.{places, place, lent}
+use Rattle.flights.specs.Table.{places, place}
 
 -- aircraft, departure and destination
 pub record SameKey (a b : List ℕ) : Type 0 where
@@ -18,6 +20,10 @@ pub record SameKey (a b : List ℕ) : Type 0 where
 -- not both used with one key
 abbrev pub Apart : List ℕ → List ℕ → Type 0
 Apart a b = free a ≡ false → free b ≡ false → SameKey a b → ⊥
+
+-- each of some records is well formed and apart from the lower ones
+abbrev pub RecordsFormed : List (List ℕ) → Type 0
+RecordsFormed l = (i : ℕ) → i < length l → WellFormed (get_or l i []) × All (λ a. Apart a (get_or l i [])) (take i l)
 
 pub record TableFormed (t : List ℕ) : Type 0 where
   pub some : 1 ≤ places t
@@ -86,19 +92,33 @@ module _ (a b : List ℕ) (p : length a ≡ 768) (q : length b ≡ 768) where
       (e ∙ raw_same 4 (take 4 (drop 17 a)) (take 4 (drop 17 b)) (cut_long a 17 4 p (omega arith)) (cut_long b 17 4 q (omega arith)))
       (f ∙ raw_same 4 (take 4 (drop 25 a)) (take 4 (drop 25 b)) (cut_long a 25 4 p (omega arith)) (cut_long b 25 4 q (omega arith)))
 
--- of two places that were lent
-pub on_places : (t : List ℕ) (i j : ℕ) {b : Bool} → Decides b (Apart (take (i * 768 + 768 - i * 768) (drop (i * 768) t)) (take (j * 768 + 768 - j * 768) (drop (j * 768) t))) → Decides b (Apart (place i t) (place j t))
-on_places t i j {b} d =
-    subst (λ (x : List ℕ). Decides b (Apart x (place j t))) (lent t i) (subst (λ (y : List ℕ). Decides b (Apart (take (i * 768 + 768 - i * 768) (drop (i * 768) t)) y)) (lent t j) d)
+-- THE TABLE, as its records one after the other
+module _ (t : List ℕ) (l : List (List ℕ)) (e : l ≡ first_chunks 768 (places t) t) (n : length l ≡ places t) where
+  record_at : (i : ℕ) (d : List ℕ) → i < places t → get_or l i d ≡ place i t
+  record_at i d h = ap (λ (m : List (List ℕ)). get_or m i d) e ∙ chunk_at 768 i (places t) t d h
 
--- and of one
-pub on_place : (t : List ℕ) (i : ℕ) {b : Bool} → Decides b (WellFormed (take (i * 768 + 768 - i * 768) (drop (i * 768) t))) → Decides b (WellFormed (place i t))
-on_place t i {b} d = subst (λ (x : List ℕ). Decides b (WellFormed x)) (lent t i) d
+  lower_at : (i j : ℕ) (d : List ℕ) → i < places t → j < i → get_or (take i l) j d ≡ place j t
+  lower_at i j d h k = get_or-take i l j d k ∙ record_at j d (omega arith)
 
--- THE TABLE
-pub table_is : (t : List ℕ) (w x y z : Bool) → Decides w (1 ≤ places t) → Decides x (places t ≤ 32) → Decides y (length t ≡ places t * 768) → Decides z (Below (λ i. WellFormed (place i t) × Below (λ j. Apart (place j t) (place i t)) i) (places t)) → Decides (((w && x) && y) && z) (TableFormed t)
-table_is t w x y z a b c d =
-    decides_as
-    (λ p. record { some = p.0.0.0; most = p.0.0.1; whole = p.0.1; each = λ i h. (p.1 i h).0; keys = λ i h. (p.1 i h).1 })
-    (λ f. (((f.some, f.most), f.whole), λ i h. (f.each i h, f.keys i h)))
-    (decides_and (decides_and (decides_and a b) c) d)
+  lower_long : (i : ℕ) → i < places t → length (take i l) ≡ i
+  lower_long i h = length-take-le i l (omega arith)
+
+  pub table_is : (b : Bool) → 1 ≤ places t → places t ≤ 32 → length t ≡ places t * 768 → Decides b (RecordsFormed l) → Decides b (TableFormed t)
+  table_is b s m w =
+      decides_as
+      (λ f. record {
+        some = s;
+        most = m;
+        whole = w;
+        each = λ i h. subst WellFormed (record_at i [] h) (f i (omega arith)).0;
+        keys = λ i h j k.
+            let a : Apart (get_or (take i l) j []) (get_or l i []) = (f i (omega arith)).1 j [] (omega (arith, lower_long i h)) in
+            subst (λ (x : List ℕ). Apart x (place i t)) (lower_at i j [] h k) (subst (λ (y : List ℕ). Apart (get_or (take i l) j []) y) (record_at i [] h) a);
+      })
+      (λ f i h.
+      let q : i < places t = omega arith in (
+        subst WellFormed (sym (record_at i [] q)) (f.each i q),
+        λ j d k.
+            let r : j < i = omega (arith, lower_long i q, k) in
+            subst (λ (x : List ℕ). Apart x (get_or l i [])) (sym (lower_at i j d q r)) (subst (λ (y : List ℕ). Apart (place j t) y) (sym (record_at i [] q)) (f.keys i q j r)),
+      ))

@@ -1,30 +1,26 @@
 -- Blanks passed from the right.
-use Rattle.std.specs.Prelude.{◌≡◌, true, List, [], ◌∷◌, ◌++◌, ℕ, suc, ◌+◌, ◌-◌, ◌≤◌, ◌<◌, length, drop, get_or, replicate}
-use Rattle.std.proofs.Math.Path.{sym, ap}
-use Rattle.std.proofs.Common.{◌∙◌, arith, take-add, take-suc, ne_eqb}
+use Rattle.std.specs.Prelude.{◌≡◌, true, List, [], ◌∷◌, ◌++◌, ℕ, length, drop, replicate}
+use Rattle.std.proofs.Math.Path.{refl, sym, ap}
+use Rattle.std.proofs.Common.{◌∙◌, arith, take-append-drop, ne_eqb}
 use Rattle.std.proofs.Math.ListN.{take}
 use Rattle.flights.specs.Padding.{trimmed, trimmed_append}
 use Rattle.places.specs.Bytes.{each, each_is}
 use Rattle.flights.specs.Ends.{trimmed_last}
 
-module _ (s : List ℕ) where
-  pub passed_blanks : (m n : ℕ) → m ≤ n → each 32 (take (n - m) (drop m s)) ≡ true → trimmed (take m s) ≡ trimmed (take n s)
-  passed_blanks m n h e =
-      let k : n ≡ m + (n - m) = omega arith in
-      let u : List ℕ = take (n - m) (drop m s) in
-      let r : u ≡ replicate (length u) 32 = (each_is 32 u).yes e in
-      sym (ap (λ (j : ℕ). trimmed (take j s)) k ∙ ap trimmed (take-add m (n - m) s) ∙ ap (λ (v : List ℕ). trimmed (take m s ++ v)) r ∙ trimmed_append (take m s) (length u))
+module _ (t u v : List ℕ) (k : ℕ) where
+  pub passed_blanks : u ≡ take k t → v ≡ drop k t → each 32 v ≡ true → trimmed u ≡ trimmed t
+  passed_blanks p q e =
+      let r : v ≡ replicate (length v) 32 = (each_is 32 v).yes e in
+      sym (trimmed_append u (length v)) ∙ ap (λ (x : List ℕ). trimmed (u ++ x)) (sym r) ∙ ap trimmed ((λ i. p i ++ q i) ∙ take-append-drop k t)
 
-  -- one byte
-  last_byte : (n : ℕ) → 0 < n → n ≤ length s → take n s ≡ take (n - 1) s ++ (get_or s (n - 1) 0 ∷ [])
-  last_byte n h l = let k : n ≡ suc (n - 1) = omega arith in ap (λ (j : ℕ). take j s) k ∙ take-suc s (n - 1) 0 (omega arith)
+module _ (t u : List ℕ) (x : ℕ) (e : t ≡ u ++ (x ∷ [])) where
+  pub passed_blank : x ≡ 32 → trimmed u ≡ trimmed t
+  passed_blank h = sym (ap trimmed e ∙ ap (λ (y : ℕ). trimmed (u ++ (y ∷ []))) h ∙ trimmed_append u 1)
 
-  pub passed_blank : (n : ℕ) → 0 < n → n ≤ length s → get_or s (n - 1) 0 ≡ 32 → trimmed (take (n - 1) s) ≡ trimmed (take n s)
-  passed_blank n h l e = sym (ap trimmed (last_byte n h l) ∙ ap (λ (x : ℕ). trimmed (take (n - 1) s ++ (x ∷ []))) e ∙ trimmed_append (take (n - 1) s) 1)
+  pub stopped : (x ≡ 32 → ⊥) → trimmed t ≡ t
+  stopped n = ap trimmed e ∙ trimmed_last u x (ne_eqb x 32 n) ∙ sym e
 
-  pub stopped : (n : ℕ) → 0 < n → n ≤ length s → (get_or s (n - 1) 0 ≡ 32 → ⊥) → trimmed (take n s) ≡ take n s
-  stopped n h l e = ap trimmed (last_byte n h l) ∙ trimmed_last (take (n - 1) s) (get_or s (n - 1) 0) (ne_eqb (get_or s (n - 1) 0) 32 e) ∙ sym (last_byte n h l)
-
-  pub none_left : (n : ℕ) → n ≡ 0 → trimmed (take n s) ≡ take n s
-  unfolding trimmed
-  none_left n e = ap (λ (j : ℕ). trimmed (take j s)) e ∙ sym (ap (λ (j : ℕ). take j s) e)
+pub none_left : (t : List ℕ) → length t ≡ 0 → trimmed t ≡ t
+unfolding trimmed
+none_left [] e = refl
+none_left (x ∷ t) e = absurd (omega arith)

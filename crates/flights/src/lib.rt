@@ -13,24 +13,21 @@ pub mod checking;
 pub mod finding;
 pub mod tables;
 
-// How long a text is without the blanks at its right. These are passed by sixteen as long as there are so many.
-fn text_length(s: &[u8]) -> usize
-    ensures { (result ≤ length s.now) × (take result s.now ≡ trimmed s.now) }
+// A text without the blanks at its right. These are passed by sixteen as long as there are so many.
+fn without_blanks(s: &[u8]) -> &[u8]
+    ensures { result.now ≡ trimmed s.now }
 {
-    let mut n = s.len();
-    while 16 <= n {
-        if !places::all_are(&s[n - 16..n], b' ') {
+    let mut text = s;
+    while let Some((front, last)) = text.split_last_chunk::<16>() {
+        if !places::all_are(last, b' ') {
             break;
         }
-        n -= 16;
+        text = front;
     }
-    while 0 < n {
-        if s[n - 1] != b' ' {
-            return n;
-        }
-        n -= 1;
+    while let Some((b' ', front)) = text.split_last() {
+        text = front;
     }
-    n
+    text
 }
 
 // The text in some bytes of a record.
@@ -38,9 +35,7 @@ pub fn text_at(b: &[u8], at: usize, width: usize) -> &[u8]
     requires { at + width ≤ length b.now }
     ensures { result.now ≡ trimmed (take width (drop at b.now)) }
 {
-    let s = &b[at..at + width];
-    let n = text_length(s);
-    &s[..n]
+    without_blanks(&b[at..at + width])
 }
 
 // WHAT CHANGES A TABLE: each says every byte of it afterwards.

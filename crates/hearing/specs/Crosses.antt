@@ -19,8 +19,7 @@ use Rattle.head.specs.declared.Head.{Head}
 use Rattle.head.specs.Head.{received as raised_to}
 use Rattle.answers.specs.Given.{forgotten}
 use Rattle.splice.specs.Splice.{splice}
-use Rattle.places.specs.declared.Place.{Place}
-use Rattle.places.specs.declared.Place.TheVariants.{At, Nowhere}
+use Rattle.places.specs.Place.{Place, At, Nowhere}
 use Rattle.places.specs.Places.{Places, get, set, get_set, set_set}
 use Rattle.flights.specs.Flight.{active, offered, Flight, flight_of, record_of, Sound, WellFormed}
 use Rattle.flights.specs.Table.{places, place}

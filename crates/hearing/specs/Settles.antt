@@ -14,8 +14,7 @@ use Rattle.reader.specs.Reading.{Judged}
 use Rattle.reader.specs.Reader.{Ruled}
 use Rattle.reader.proofs.Judging.{judged_one}
 use Rattle.head.specs.declared.Head.{Head}
-use Rattle.places.specs.declared.Place.{Place}
-use Rattle.places.specs.declared.Place.TheVariants.{At, Nowhere}
+use Rattle.places.specs.Place.{Place, At, Nowhere}
 use Rattle.places.specs.Places.{get, set}
 use Rattle.places.specs.Forms.{bytes_of}
 use Rattle.flights.specs.Formed.{TableFormed}

@@ -25,7 +25,6 @@ pub mod settling;
 
 use head::{Head, Standing};
 use message::Record;
-use places::Place;
 use rules::{Answer, Outcome};
 
 // The record of a text that is kept, which is one that is read.
@@ -54,7 +53,7 @@ fn hear_acceptance(
 {
     let p = unanswered::find(unanswered, r.figures.reference);
     match p {
-        Place::At(i) => {
+        Some(i) => {
             let t = unanswered::text(unanswered, i);
             let q = kept_record(t);
             if rules::retires(w, r, t, q) {
@@ -64,7 +63,7 @@ fn hear_acceptance(
             }
             arrivals::hear_on(h, fresh, w, r, sent, answers, out)
         }
-        Place::Nowhere => arrivals::hear_on(h, fresh, w, r, sent, answers, out),
+        None => arrivals::hear_on(h, fresh, w, r, sent, answers, out),
     }
 }
 

@@ -5,7 +5,7 @@ ghost use Rattle.reader.specs.Reader.{Ruled};
 ghost use Rattle.flights.specs.Formed.{TableFormed};
 ghost use Rattle.flights.specs.Decoded.{flights_in, table_of};
 ghost use Rattle.unanswered.specs.Waiting.{UnansweredFormed};
-ghost use Rattle.places.specs.declared.Place.TheVariants.{At};
+ghost use Rattle.places.specs.Place.{At};
 ghost use Rattle.deeds.specs.Deeds.{deed_of};
 ghost use Rattle.deeds.specs.Applying.{applied};
 ghost use Rattle.memory.specs.End.{waiting_in};
@@ -17,7 +17,6 @@ ghost use Rattle.hearing.specs.Settles.{Settles};
 use deeds::Deed;
 use head::Head;
 use message::Kind;
-use places::Place;
 use rules::{Answer, Outcome};
 
 // What a kept message does.
@@ -76,8 +75,8 @@ pub fn hear_answer(h: Head, k: Kind, n: usize, sent: &mut [u8], unanswered: &mut
 {
     let p = unanswered::find(unanswered, n);
     match p {
-        Place::At(i) => settle(h, k, i, sent, unanswered),
-        Place::Nowhere => Outcome {
+        Some(i) => settle(h, k, i, sent, unanswered),
+        None => Outcome {
             answer: Answer::NothingUnanswered,
             head: h,
         },

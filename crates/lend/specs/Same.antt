@@ -5,8 +5,7 @@ use Rattle.std.proofs.Common.{ap}
 use Rattle.std.proofs.Math.Option.{Option, none, some}
 use Rattle.message.specs.declared.Record.{Record}
 use Rattle.head.specs.declared.Head.{Head}
-use Rattle.places.specs.declared.Place.{Place}
-use Rattle.places.specs.declared.Place.TheVariants.{At, Nowhere}
+use Rattle.places.specs.Place.{Place, At, Nowhere}
 use Rattle.places.specs.Places.{get}
 use Rattle.unanswered.specs.Waiting.{Waiting}
 use Rattle.memory.specs.End.{Memory, end_of}

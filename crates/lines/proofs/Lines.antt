@@ -8,7 +8,7 @@ use native.Mathlib.Omega.{arith}
 use lib.Dec.{eqb}
 use lib.ListN.{length, take, drop}
 use lib.Seq.{take-take, take-nil, drop-nil}
-use Rattle.lines.proofs.Feeding.{take_most}
+use Rattle.std.proofs.lemmas.List.{take_min}
 use Rattle.reader.specs.Reader.{verdict}
 use Rattle.reader.proofs.Judging.{judged_by_beginning}
 use Rattle.message.specs.declared.Verdict.{Verdict}
@@ -105,12 +105,12 @@ all_counted (t ∷ ts) = omega (arith, one_of_two (verdict t), all_counted ts)
 -- ---- what is said of a text, by its beginning
 
 -- the letters of the type, of a text that may be too short for them
-pub three : (s : List ℕ) (a e : ℕ) → a ≡ min 1 (length s) → e ≡ min 4 (length s) → take (e - a) (drop a s) ≡ take 3 (drop 1 s)
+pub three : (s : List ℕ) (a e : ℕ) → a ≡ min (length s) 1 → e ≡ min (length s) 4 → take (e - a) (drop a s) ≡ take 3 (drop 1 s)
 three [] a e p q = rw (drop-nil a, take-nil (e - a))
 three (x ∷ s) a e p q =
     let u : a ≡ 1 = omega arith in
     let v : e - a ≡ min 3 (length s) = omega arith in
-    rw (v, u, take_most 3 s)
+    rw (v, u, take_min 3 s)
 
 letters : (s : List ℕ) → take 3 (drop 1 (take 1078 s)) ≡ take 3 (drop 1 s)
 letters [] = refl

@@ -1,7 +1,7 @@
 // What the listing says of one line.
 #![tactic(auto)]
 
-ghost use Rattle.std.specs.Prelude.{◌≡◌, [], ◌∷◌, ◌++◌, ◌+◌, ◌≤◌, ◌<◌, min, length, take, drop};
+ghost use Rattle.std.specs.Prelude.{◌≡◌, [], ◌∷◌, ◌++◌, ◌+◌, ◌≤◌, length, take, drop};
 ghost use Rattle.reader.specs.Reader.{verdict};
 ghost use Rattle.lines.specs.Numbers.{decimal};
 ghost use Rattle.splice.specs.Splice.{Spliced};
@@ -12,30 +12,14 @@ use message::Verdict;
 
 pub mod line_ends;
 
-fn digit(n: u64) -> u8
-    requires { n < 10 }
-    ensures { result ≡ 48 + n }
-{
-    48 + n as u8
-}
-
 // Writes n in decimal over d from index at on, and answers the index behind it.
 fn put_number(d: &mut [u8], at: usize, n: u64) -> usize
     requires { at + 20 ≤ length d.old }
     ensures spliced { Spliced at (decimal n) d.old d.new result }
     ensures upper_bound { result ≤ at + 20 }
 {
-    let mut digits = [0u8; 20];
-    let mut i = 20;
-    let mut rest = n;
-    while 10 <= rest {
-        i -= 1;
-        digits[i] = digit(rest % 10);
-        rest /= 10;
-    }
-    i -= 1;
-    digits[i] = digit(rest);
-    splice::put(d, at, &digits[i..])
+    let mut digits = itoa::Buffer::new();
+    splice::put(d, at, digits.format(n).as_bytes())
 }
 
 // Writes a word and a number behind it over d from index at on, and answers the index behind them.
@@ -48,12 +32,6 @@ pub fn put_labelled(d: &mut [u8], at: usize, word: &[u8], n: u64) -> usize
     put_number(d, number, n)
 }
 
-pub fn least(a: usize, b: usize) -> usize
-    ensures { (result ≤ a) × (result ≤ b) × (result ≡ min a b) }
-{
-    if a < b { a } else { b }
-}
-
 // ---- the lines of the report
 
 // What is said of a text that is read: the letters of its type.
@@ -62,8 +40,8 @@ fn put_type(d: &mut [u8], at: usize, text: &[u8]) -> usize
     ensures spliced { Spliced at ((32 ∷ []) ++ take 3 (drop 1 text.now)) d.old d.new result }
     ensures upper_bound { result ≤ at + 4 }
 {
-    let start = least(1, text.len());
-    let end = least(4, text.len());
+    let start = text.len().min(1);
+    let end = text.len().min(4);
     let blank = splice::put(d, at, b" ");
     splice::put(d, blank, &text[start..end])
 }
@@ -78,11 +56,11 @@ fn put_refusal(d: &mut [u8], at: usize, place: u64, hyphens: u64) -> usize
     put_labelled(d, first, b" ", hyphens)
 }
 
-// A line of the report: the index behind it, and 1 where its text is read, else 0.
+// A line of the report: the index behind it, and whether its text is read.
 #[derive(Clone, Copy)]
 pub struct Told {
     pub next: usize,
-    pub read: u64,
+    pub read: bool,
 }
 
 // Judges a text, the k-th of the input, and writes its line over d from index at on.
@@ -90,18 +68,17 @@ pub fn tell(d: &mut [u8], at: usize, k: u64, text: &[u8]) -> Told
     requires { at + 71 ≤ length d.old }
     ensures { Tells (line_of k text.now) (if_read (verdict text.now)) at d.old d.new result.next result.read }
 {
-    let verdict = reader::judge(text);
     let number = put_number(d, at, k);
-    match verdict {
+    match reader::judge(text) {
         Verdict::Read => {
             let word = put_type(d, number, text);
             let next = splice::put(d, word, b"\n");
-            Told { next, read: 1 }
+            Told { next, read: true }
         }
         Verdict::Refused(place, hyphens) => {
             let word = put_refusal(d, number, place as u64, hyphens as u64);
             let next = splice::put(d, word, b"\n");
-            Told { next, read: 0 }
+            Told { next, read: false }
         }
     }
 }

@@ -5,8 +5,7 @@ use Rattle.std.proofs.lemmas.Bool.{false≢true}
 use Rattle.std.proofs.Math.Option.{Option}
 use Rattle.scan.specs.Bools.{known, Decides}
 use Rattle.head.specs.declared.Head.{Head}
-use Rattle.places.specs.declared.Place.{Place}
-use Rattle.places.specs.declared.Place.TheVariants.{At, Nowhere}
+use Rattle.places.specs.Place.{Place, At, Nowhere}
 use Rattle.unanswered.specs.Waiting.{Waiting, waiting_of, place, found}
 use Rattle.memory.specs.End.{End, Memory, Formed, end_of, memory_of}
 use Rattle.memory.specs.Held.{NumberedAt, found_waiting, waiting_at_lem, memory_back}

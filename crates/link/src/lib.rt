@@ -15,7 +15,6 @@ pub mod dispatch;
 
 use head::Head;
 use message::{Record, Verdict};
-use places::Place;
 use rules::{Answer, Outcome};
 
 // RESENDING: the kept text of an unanswered number. Nothing else changes.
@@ -38,8 +37,8 @@ pub fn resend(
     }
     let p = unanswered::find(unanswered, n);
     match p {
-        Place::At(i) => rules::give(h, unanswered::text(unanswered, i), out),
-        Place::Nowhere => Outcome {
+        Some(i) => rules::give(h, unanswered::text(unanswered, i), out),
+        None => Outcome {
             answer: Answer::NothingUnanswered,
             head: h,
         },

@@ -4,11 +4,11 @@ use mathlib.Core.List.{List, [], ◌∷◌, ◌++◌, append_assoc, append-nil}
 use Prim.Native.Nat.{ℕ, ◌+◌, ◌-◌, ◌≤◌, ◌<◌, min}
 use native.Mathlib.Omega.{arith}
 use native.Mathlib.Numerals.{add-one}
-use lib.ListN.{length, take, drop, get_or, length-append, length-take, length-drop}
-use lib.Seq.{length-take-le, take-append-add, take_all, take-add, take-suc, get_or-drop, drop-drop}
-use mathlib.Core.Bool.{Bool, true, false, ◌||◌}
-use lib.Dec.{ltb, eqb}
-use borrow.Author.Tests.{leb-true, le-leb, eqb-true, eqb-false, ltb-false, le-ltb}
+use lib.ListN.{length, take, drop, length-append, length-take, length-drop}
+use lib.Seq.{length-take-le, take-append-add, take_all, take-add, take-suc, drop-drop}
+use mathlib.Core.Bool.{Bool, true, false}
+use borrow.Author.Tests.{le-leb}
+use Rattle.std.specs.Int.{from_bool}
 use Rattle.reader.specs.Reader.{verdict}
 use Rattle.reader.proofs.Judging.{judged_by_beginning}
 use Rattle.list.specs.declared.Tally.{Tally}
@@ -18,9 +18,8 @@ use Rattle.lines.specs.Telling.{Tells}
 use Rattle.lines.specs.Listing.{ended, unfinished, line_of, lines_from, if_read, read_of, refused_of, last_line, texts, totals, broke_off, listing, broken}
 use Rattle.list.specs.Progress.{most_lines, room, soundly, Holds, After}
 use Rattle.splice.specs.Splicing.{front, behind, same_bytes}
-use Rattle.lines.proofs.Feeding.{take_most}
+use Rattle.std.proofs.lemmas.List.{take_min}
 use Rattle.lines.proofs.Lines.{ended_append, ended_part, ended_line, unfinished_append, unfinished_part, unfinished_line, lines_more, read_more, all_counted, at_most_one, line_by_beginning, same_line, same_verdict, kept_append}
-use Rattle.scan.specs.Bools.{and_yes, neither}
 
 -- part was put behind the bytes that are held, as far as there is room
 kept_part : (held n : ℕ) (line part : List ℕ) → held ≤ 1078 → length line ≡ 1078 → n ≡ min (1078 - held) (length part)
@@ -28,7 +27,7 @@ kept_part : (held n : ℕ) (line part : List ℕ) → held ≤ 1078 → length l
 kept_part held n line part h l e =
     let k : length (take held line) ≡ held = length-take-le held line (omega arith) in
     let m : length (take held line) + (1078 - held) ≡ 1078 = omega arith in
-    ap (λ (x : List ℕ). take held line ++ x) (ap (λ (j : ℕ). take j part) e ∙ take_most (1078 - held) part)
+    ap (λ (x : List ℕ). take held line ++ x) (ap (λ (j : ℕ). take j part) e ∙ take_min (1078 - held) part)
     ∙ sym (take-append-add (take held line) part (1078 - held))
     ∙ ap (λ (j : ℕ). take j (take held line ++ part)) m
 
@@ -44,7 +43,7 @@ holds_more held n line part {line'} {r} h l e w =
     }
 
 -- a text is told of by the bytes of it that are kept
-pub tells_kept : (k : ℕ) (s t : List ℕ) {at next read : ℕ} {d e : List ℕ} → s ≡ take 1078 t
+pub tells_kept : (k : ℕ) (s t : List ℕ) {at next : ℕ} {read : Bool} {d e : List ℕ} → s ≡ take 1078 t
     → Tells (line_of k s) (if_read (verdict s)) at d e next read → Tells (line_of k t) (if_read (verdict t)) at d e next read
 tells_kept k s t q p = record {
   wrote = same_bytes (ap (line_of k) q ∙ line_by_beginning k t) p.wrote;
@@ -105,51 +104,29 @@ line_step xs ys line line' w tally a h g =
       within = omega arith;
     }
 
--- ---- the same, of a piece of which `taken` bytes were taken, with the next line feed r bytes further
+-- ---- the same, of a piece of which `taken` bytes were taken, and of the rest r bytes up to the next line feed
 
--- what is left of the piece up to the line feed
-module _ (piece : List ℕ) (taken r : ℕ) (l : LineEnd (take (length piece - taken) (drop taken piece)) r) (h : taken ≤ length piece) where
-  all_left : take (length piece - taken) (drop taken piece) ≡ drop taken piece
-  all_left = take_all (length piece - taken) (drop taken piece) (omega (arith, length-drop taken piece))
+module _ (piece rest : List ℕ) (taken r : ℕ) (e : rest ≡ drop taken piece) (l : LineEnd rest r) where
+  part_taken : take (taken + r) piece ≡ take taken piece ++ take r rest
+  part_taken = take-add taken r piece ∙ ap (λ (s : List ℕ). take taken piece ++ take r s) (sym e)
 
-  part_bytes : List ℕ
-  part_bytes = take (taken + r - taken) (drop taken piece)
-
-  same_part : part_bytes ≡ take r (drop taken piece)
-  unfolding part_bytes
-  same_part = let e : taken + r - taken ≡ r = omega arith in ap (λ (k : ℕ). take k (drop taken piece)) e
-
-  pub part_within : taken + r ≤ length piece
-  part_within = omega (arith, l.inside, ap length all_left, length-drop taken piece)
-
-  part_feedless : feedless (take (taken + r - taken) (drop taken piece)) ≡ true
-  unfolding part_bytes
-  part_feedless = ap feedless same_part ∙ ap (λ (s : List ℕ). feedless (take r s)) (sym all_left) ∙ l.before
-
-  part_taken : take (taken + r) piece ≡ take taken piece ++ part_bytes
-  part_taken = take-add taken r piece ∙ ap (λ (s : List ℕ). take taken piece ++ s) (sym same_part)
-
-  line_taken : taken + r < length piece → take (taken + r + 1) piece ≡ take taken piece ++ (part_bytes ++ (10 ∷ []))
-  line_taken g =
-      let f : get_or (take (length piece - taken) (drop taken piece)) r 0 ≡ 10 = l.found (omega (arith, ap length all_left, length-drop taken piece)) in
-      let b : get_or piece (taken + r) 0 ≡ 10 = sym (get_or-drop taken piece r 0) ∙ ap (λ (s : List ℕ). get_or s r 0) (sym all_left) ∙ f in
-      rw (add-one, take-suc piece (taken + r) 0 g, b, part_taken, append_assoc)
+  line_taken : r < length rest → take (taken + (r + 1)) piece ≡ take taken piece ++ (take r rest ++ (10 ∷ []))
+  line_taken g = take-add taken (r + 1) piece ∙ rw (← e, add-one, take-suc rest r 0 g, l.found g)
 
   fed_part : (xs ys line line' : List ℕ) (tally : Tally) (held : ℕ) → After (xs ++ take taken piece) ys tally line
-      → Holds (take tally.held line ++ take (taken + r - taken) (drop taken piece)) line' held
+      → Holds (take tally.held line ++ take r rest) line' held
       → After (xs ++ take (taken + r) piece) ys (record { lines = tally.lines; read = tally.read; held = held }) line'
-  unfolding part_bytes
-  fed_part xs ys line line' tally held a p = rw (part_taken, ← append_assoc) (part_step (xs ++ take taken piece) ys line line' part_bytes tally held a part_feedless p)
+  fed_part xs ys line line' tally held a p =
+      rw (part_taken, ← append_assoc) (part_step (xs ++ take taken piece) ys line line' (take r rest) tally held a l.before p)
 
-  fed_line : (xs ys line line' : List ℕ) (tally : Tally) {out out' : List ℕ} {written next read : ℕ} → taken + r < length piece → tally.lines < most_lines
+  fed_line : (xs ys line line' : List ℕ) (tally : Tally) {out out' : List ℕ} {written next : ℕ} {read : Bool} → r < length rest → tally.lines < most_lines
       → After (xs ++ take taken piece) (ys ++ take written out) tally line
-      → Tells (line_of (tally.lines + 1) (take tally.held line ++ take (taken + r - taken) (drop taken piece)))
-      (if_read (verdict (take tally.held line ++ take (taken + r - taken) (drop taken piece)))) written out out' next read
+      → Tells (line_of (tally.lines + 1) (take tally.held line ++ take r rest)) (if_read (verdict (take tally.held line ++ take r rest))) written out out' next read
       → next ≤ length out
-      → After (xs ++ take (taken + r + 1) piece) (ys ++ take next out') (record { lines = tally.lines + 1; read = tally.read + read; held = 0 }) line'
-  unfolding part_bytes
+      → After (xs ++ take (taken + (r + 1)) piece) (ys ++ take next out') (record { lines = tally.lines + 1; read = tally.read + from_bool read; held = 0 }) line'
   fed_line xs ys line line' tally {out} {out'} {written} g m a p n =
-      rw (line_taken g, front p.wrote n, p.told, ← append_assoc xs (take taken piece) (part_bytes ++ (10 ∷ [])), ← append_assoc ys (take written out)) (line_step (xs ++ take taken piece) _ line line' part_bytes tally a part_feedless m)
+      rw (line_taken g, front p.wrote n, p.told, ← append_assoc xs (take taken piece) (take r rest ++ (10 ∷ [])), ← append_assoc ys (take written out))
+      (line_step (xs ++ take taken piece) _ line line' (take r rest) tally a l.before m)
 
 -- what stands behind stays as it was
 still : (m n : ℕ) (s t : List ℕ) → m ≤ n → drop m s ≡ drop m t → drop n s ≡ drop n t
@@ -199,12 +176,6 @@ pub record Sound (tally : Tally) : Type 0 where
   pub few : tally.lines ≤ most_lines
   pub short : tally.held ≤ 1078
 
-pub sound_of : (tally : Tally) → soundly tally ≡ true → Sound tally
-sound_of tally e =
-    let p = and_yes _ _ e in
-    let q = and_yes _ _ p.0 in
-    record { some = leb-true _ _ q.0; few = leb-true _ _ q.1; short = leb-true _ _ p.1 }
-
 sound_after : (xs ys line : List ℕ) (tally : Tally) → After xs ys tally line → soundly tally ≡ true
 sound_after xs ys line tally a =
     let r : tally.read ≤ tally.lines = omega (arith, a.good, a.counted, all_counted (ended xs)) in
@@ -216,26 +187,6 @@ unsound xs ys line tally a h = let z : true ≡ false = sym (sound_after xs ys l
 
 -- ---- the loop over the lines of a piece
 
--- where another line is taken it is counted, and out has room for it
-pub may_go : (lines written size : ℕ) → lines ≤ most_lines → written ≤ size → eqb lines most_lines || ltb (size - written) room ≡ false
-    → (lines < most_lines) × (written + room ≤ size)
-may_go lines written size h k e =
-    let p = neither _ _ e in
-    let q = eqb-false lines most_lines p.0 in
-    (omega (arith, q), omega (arith, ltb-false (size - written) room p.1))
-
--- where no other line is taken one of the two is missing
-pub must_stop : (lines written size : ℕ) → eqb lines most_lines || ltb (size - written) room ≡ true → written + room ≤ size → lines ≡ most_lines
-must_stop lines written size e h =
-    eqb-true lines most_lines (go (eqb lines most_lines) (e' e))
-  where
-    e' : eqb lines most_lines || ltb (size - written) room ≡ true → eqb lines most_lines || false ≡ true
-    e' e = ap (λ (u : Bool). eqb lines most_lines || u) (sym (le-ltb (size - written) room (omega arith))) ∙ e
-
-    go : (t : Bool) → t || false ≡ true → t ≡ true
-    go true e = refl
-    go false e = e
-
 -- what holds at each turn: what was taken and written so far, and the tally for it
 pub record Going (line₀ piece out₀ : List ℕ) (tally₀ : Tally) (line out : List ℕ) (taken written : ℕ) (tally : Tally) : Type 0 where
   pub sound : Sound tally
@@ -246,44 +197,44 @@ pub record Going (line₀ piece out₀ : List ℕ) (tally₀ : Tally) (line out 
   pub none : length out₀ < room → (taken ≡ 0) × (written ≡ 0)
   pub goes : (xs ys : List ℕ) → After xs ys tally₀ line₀ → After (xs ++ take taken piece) (ys ++ take written out) tally line
 
-pub going_start : (line piece out : List ℕ) (tally : Tally) → Sound tally → Going line piece out tally line out 0 0 tally
-going_start line piece out tally s = record {
-  sound = s;
-  part = omega arith;
-  fits = omega arith;
-  same = refl;
-  rest = refl;
-  none = λ h. (refl, refl);
-  goes = λ xs ys a. rw (append-nil xs, append-nil ys) a;
-}
+module _ {line₀ piece out₀ line out : List ℕ} {tally₀ tally : Tally} {taken written : ℕ} (g : Going line₀ piece out₀ tally₀ line out taken written tally) where
+  -- what the loop looks at is all that is left
+  rest_of : take (length piece - taken) (drop taken piece) ≡ drop taken piece
+  rest_of = take_all (length piece - taken) (drop taken piece) (omega (arith, length-drop taken piece))
 
-module _ {line₀ piece out₀ line out : List ℕ} {tally₀ tally : Tally} {taken written : ℕ} (g : Going line₀ piece out₀ tally₀ line out taken written tally) (r : ℕ) (l : LineEnd (take (length piece - taken) (drop taken piece)) r) where
-  pub going_part : (line' : List ℕ) (held : ℕ) → written + room ≤ length out → Holds (take tally.held line ++ take (taken + r - taken) (drop taken piece)) line' held
-      → Going line₀ piece out₀ tally₀ line' out (taken + r) written (record { lines = tally.lines; read = tally.read; held = held })
-  going_part line' held k p = record {
-    sound = record { some = g.sound.some; few = g.sound.few; short = omega (arith, p.size, length-take 1078 (take tally.held line ++ take (taken + r - taken) (drop taken piece))) };
-    part = part_within piece taken r l g.part;
-    fits = g.fits;
-    same = g.same;
-    rest = g.rest;
-    none = λ h. absurd (omega (arith, g.same));
-    goes = λ xs ys a. fed_part piece taken r l g.part xs (ys ++ take written out) line line' tally held (g.goes xs ys a) p;
-  }
+  module _ (rest : List ℕ) (r : ℕ) (e : rest ≡ take (length piece - taken) (drop taken piece)) (l : LineEnd rest r) (k : written + room ≤ length out) where
+    rest_long : length rest ≡ length piece - taken
+    rest_long = ap length (e ∙ rest_of) ∙ length-drop taken piece
 
-  pub going_line : (line' out' : List ℕ) (next read : ℕ) → taken + r < length piece → tally.lines < most_lines
-      → Tells (line_of (tally.lines + 1) (take tally.held line ++ take (taken + r - taken) (drop taken piece)))
-      (if_read (verdict (take tally.held line ++ take (taken + r - taken) (drop taken piece)))) written out out' next read
-      → written + room ≤ length out → length out' ≡ length out
-      → Going line₀ piece out₀ tally₀ line' out' (taken + r + 1) next (record { lines = tally.lines + 1; read = tally.read + read; held = 0 })
-  going_line line' out' next read h m p k len =
-      let n : next ≤ length out = omega (arith, p.room) in
-      let one : read ≤ 1 = rw p.told (at_most_one _) in
-      record {
-        sound = record { some = omega (arith, g.sound.some); few = omega arith; short = omega arith };
-        part = omega arith;
-        fits = omega arith;
-        same = len ∙ g.same;
-        rest = behind p.wrote n ∙ still written next out out₀ (omega (arith, p.wrote.place)) g.rest;
-        none = λ i. absurd (omega (arith, g.same));
-        goes = λ xs ys a. fed_line piece taken r l g.part xs ys line line' tally h m (g.goes xs ys a) p n;
-      }
+    -- the rest has no line feed
+    pub going_part : (line' : List ℕ) (held : ℕ) → r ≡ length rest → Holds (take tally.held line ++ rest) line' held
+        → Going line₀ piece out₀ tally₀ line' out (taken + r) written (record { lines = tally.lines; read = tally.read; held = held })
+    going_part line' held z p =
+        let all : take r rest ≡ rest = take_all r rest (omega arith) in
+        record {
+          sound = record { some = g.sound.some; few = g.sound.few; short = omega (arith, p.size, length-take 1078 (take tally.held line ++ rest)) };
+          part = omega (arith, g.part, rest_long);
+          fits = g.fits;
+          same = g.same;
+          rest = g.rest;
+          none = λ h. absurd (omega (arith, g.same));
+          goes = λ xs ys a. fed_part piece rest taken r (e ∙ rest_of) l xs (ys ++ take written out) line line' tally held (g.goes xs ys a) (rw all p);
+        }
+
+    -- a line feed ends a line
+    pub going_line : (line' out' : List ℕ) (next : ℕ) (read : Bool) → r < length rest → tally.lines < most_lines
+        → Tells (line_of (tally.lines + 1) (take tally.held line ++ take r rest)) (if_read (verdict (take tally.held line ++ take r rest))) written out out' next read
+        → length out' ≡ length out
+        → Going line₀ piece out₀ tally₀ line' out' (taken + (r + 1)) next (record { lines = tally.lines + 1; read = tally.read + from_bool read; held = 0 })
+    going_line line' out' next read h m p len =
+        let n : next ≤ length out = omega (arith, p.room) in
+        let one : from_bool read ≤ 1 = rw p.told (at_most_one _) in
+        record {
+          sound = record { some = omega (arith, g.sound.some); few = omega arith; short = omega arith };
+          part = omega (arith, g.part, rest_long);
+          fits = omega arith;
+          same = len ∙ g.same;
+          rest = behind p.wrote n ∙ still written next out out₀ (omega (arith, p.wrote.place)) g.rest;
+          none = λ i. absurd (omega (arith, g.same));
+          goes = λ xs ys a. fed_line piece rest taken r (e ∙ rest_of) l xs ys line line' tally h m (g.goes xs ys a) p n;
+        }

@@ -14,17 +14,24 @@ use lines::Told;
 // ---- a line that comes in several pieces
 
 // Puts part behind the held bytes of line, as far as there is room, and answers how many are held then.
-fn hold(line: &mut [u8], held: usize, part: &[u8]) -> usize
-    requires { (held ≤ kept) × (length line.old ≡ kept) }
+fn hold(line: &mut [u8; KEPT], held: usize, part: &[u8]) -> usize
+    requires { held ≤ kept }
     ensures { Holds (take held line.old ++ part.now) line.new result }
 {
-    let n = lines::least(KEPT - held, part.len());
+    let n = (KEPT - held).min(part.len());
     splice::put(line, held, &part[..n])
 }
 
 // Tells of the text that is the held bytes of line with part behind them.
-fn tell_whole(d: &mut [u8], at: usize, k: u64, line: &mut [u8], held: usize, part: &[u8]) -> Told
-    requires { (at + 71 ≤ length d.old) × (held ≤ kept) × (length line.old ≡ kept) }
+fn tell_whole(
+    d: &mut [u8],
+    at: usize,
+    k: u64,
+    line: &mut [u8; KEPT],
+    held: usize,
+    part: &[u8],
+) -> Told
+    requires { (at + 71 ≤ length d.old) × (held ≤ kept) }
     ensures { Tells (line_of k (take held line.old ++ part.now)) (if_read (verdict (take held line.old ++ part.now))) at d.old d.new result.next result.read }
 {
     if held == 0 {
@@ -86,37 +93,37 @@ fn feed_lines(tally: Tally, line: &mut [u8; KEPT], piece: &[u8], out: &mut [u8])
     requires { soundly tally ≡ true }
     ensures { Fed tally line.old piece.now out.old result.tally line.new out.new result.taken result.written }
 {
-    let mut taken = 0;
-    let mut written = 0;
-    let mut lines = tally.lines;
-    let mut read = tally.read;
-    let mut held = tally.held;
-    while taken < piece.len() {
-        if (lines == MOST_LINES) | (out.len() - written < ROOM) {
-            return Step {
-                tally: Tally { lines, read, held },
-                taken,
-                written,
-            };
+    let mut step = Step {
+        tally,
+        taken: 0,
+        written: 0,
+    };
+    while step.taken < piece.len() {
+        if step.tally.lines == MOST_LINES || out.len() - step.written < ROOM {
+            return step;
         }
-        let end = taken + lines::line_ends::line_end(&piece[taken..]);
-        if end == piece.len() {
-            held = hold(line, held, &piece[taken..end]);
-            taken = end;
+        let rest = &piece[step.taken..];
+        let end = lines::line_ends::line_end(rest);
+        if end == rest.len() {
+            step.tally.held = hold(line, step.tally.held, rest);
+            step.taken += end;
         } else {
-            lines += 1;
-            let told = tell_whole(out, written, lines, line, held, &piece[taken..end]);
-            read += told.read;
-            written = told.next;
-            held = 0;
-            taken = end + 1;
+            step.tally.lines += 1;
+            let told = tell_whole(
+                out,
+                step.written,
+                step.tally.lines,
+                line,
+                step.tally.held,
+                &rest[..end],
+            );
+            step.tally.read += u64::from(told.read);
+            step.tally.held = 0;
+            step.taken += end + 1;
+            step.written = told.next;
         }
     }
-    Step {
-        tally: Tally { lines, read, held },
-        taken,
-        written,
-    }
+    step
 }
 
 // Takes a piece of the input, and writes the lines of the report for it to the start of out. Where fewer than ROOM
@@ -152,22 +159,16 @@ fn put_totals(d: &mut [u8], at: usize, lines: u64, read: u64, refused: u64) -> u
 pub fn finish(tally: Tally, line: &mut [u8; KEPT], out: &mut [u8]) -> usize
     ensures { Ends listing tally line.old out.old out.new result }
 {
-    if !sound(tally) {
+    if !sound(tally) || out.len() < ROOM {
         return 0;
     }
-    if out.len() < ROOM {
-        return 0;
+    if tally.held == 0 {
+        return put_totals(out, 0, tally.lines, tally.read, tally.lines - tally.read);
     }
-    let lines = tally.lines;
-    let read = tally.read;
-    let held = tally.held;
-    if held == 0 {
-        return put_totals(out, 0, lines, read, lines - read);
-    }
-    let told = tell_whole(out, 0, lines + 1, line, held, b"");
-    let good = read + told.read;
-    let at = told.next;
-    put_totals(out, at, lines + 1, good, lines + 1 - good)
+    let lines = tally.lines + 1;
+    let told = tell_whole(out, 0, lines, line, tally.held, b"");
+    let read = tally.read + u64::from(told.read);
+    put_totals(out, told.next, lines, read, lines - read)
 }
 
 // Where the input broke off: writes the last line of the report to the start of out, and answers how many bytes that

@@ -8,7 +8,7 @@ use Rattle.scan.specs.Bools.{Decides, decides_and, decides_as}
 use Rattle.splice.specs.Splice.{splice}
 use Rattle.head.specs.declared.Head.{Head}
 use Rattle.head.specs.Sound.{HeadFormed}
-use Rattle.places.specs.declared.Place.TheVariants.{At}
+use Rattle.places.specs.Place.{At}
 use Rattle.places.specs.Bytes.{number_at, free}
 use Rattle.places.specs.Search.{first_from}
 use Rattle.places.specs.Places.{is_free, get, set, first_of, empty, Every, every_of, found_below, found_has}

@@ -1,12 +1,11 @@
 -- Laws of the numbers that parts stand for.
-use Rattle.std.specs.Prelude.{◌≡◌, refl, ◌⊎◌, Bool, true, false, ◌&&◌, List, [], ◌∷◌, ℕ, zero, suc, ◌+◌, ◌-◌, ◌*◌, ◌≤◌, ◌<◌, length, get_or, leb, eqb}
+use Rattle.std.specs.Prelude.{◌≡◌, refl, ◌⊎◌, Bool, true, false, ◌&&◌, List, [], ◌∷◌, ℕ, zero, suc, ◌+◌, ◌-◌, ◌*◌, ◌≤◌, length, get_or, leb, eqb}
 use Rattle.std.proofs.Common.{sym, ◌∙◌, inl, inr, arith}
 use borrow.Author.Tests.{leb-true, eqb-true, ne_eqb}
 use Rattle.scan.specs.Grammar.{place_of, size_of, Span}
 use Rattle.scan.specs.Bools.{known, and_l, and_r, both}
 use Rattle.changes.specs.declared.Plan.{Plan}
 use Rattle.types.specs.declared.Parts.{Parts}
-use Rattle.types.specs.Picking.{letters_of}
 use Rattle.message.specs.Record.{figure, figure_at, figure_in, level_in, form_in, plan_figures_of, figures_of, kind_of}
 use Rattle.message.specs.declared.Kind.TheVariants.{None}
 use Rattle.message.specs.declared.LevelKind.TheVariants.{Absent}
@@ -45,9 +44,11 @@ module _ (s : List ℕ) (at : ℕ) where
       go (inl e) = let z : k ≡ 0 = omega (arith, leb-true k 4 e) in rw z
       go (inr e) = rw e
 
+pub ruleset figures = (figure_1, figure_2, figure_3, figure_4, figure_no)
+
 -- what an absent part says
 module _ (s : List ℕ) (p : Span) (h : eqb (size_of p) 0 ≡ true) where
-  absent_figure : 0 ≡ figure_in s p
+  pub absent_figure : 0 ≡ figure_in s p
   absent_figure =
       let z = eqb-true (size_of p) 0 h in
       figure_no s (place_of p) (size_of p) (λ e. omega (arith, e, z)) (λ e. omega (arith, e, z)) (λ e. omega (arith, e, z)) (λ e. omega (arith, e, z))
@@ -82,10 +83,8 @@ plain_figures s p a b c d e f g a' b' c' d' e' f' g' h x y z x' y' z' =
       reason = z' i;
     }
 
--- a text of fewer than four bytes names no type
-pub short_kind : (s : List ℕ) → length s < 4 → None ≡ kind_of (letters_of s)
+-- a number that is of none of the types' letters
+pub no_kind : (w : ℕ) → (w ≡ 4608076 → ⊥) → (w ≡ 4411468 → ⊥) → (w ≡ 4543316 → ⊥) → (w ≡ 4409415 → ⊥) → (w ≡ 4410956 → ⊥) → (w ≡ 5395529 → ⊥) → (w ≡ 5395521 → ⊥) → (w ≡ 5393473 → ⊥) → (w ≡ 4997453 → ⊥) → (w ≡ 5001805 → ⊥) → None ≡ kind_of w
 unfolding kind_of
-short_kind s h =
-    let z : get_or s 3 0 ≡ 0 = get_d_past s 3 (omega arith) in
-    let n : (w : ℕ) → (letters_of s ≡ w → ⊥) → eqb (letters_of s) w ≡ false = λ w m. ne_eqb (letters_of s) w m in
-    rw (n 4608076 (λ e. omega arith), n 4411468 (λ e. omega arith), n 4543316 (λ e. omega arith), n 4409415 (λ e. omega arith), n 4410956 (λ e. omega arith), n 5395529 (λ e. omega arith), n 5395521 (λ e. omega arith), n 5393473 (λ e. omega arith), n 4997453 (λ e. omega arith), n 5001805 (λ e. omega arith))
+no_kind w a b c d e f g h i j =
+    rw (ne_eqb w 4608076 a, ne_eqb w 4411468 b, ne_eqb w 4543316 c, ne_eqb w 4409415 d, ne_eqb w 4410956 e, ne_eqb w 5395529 f, ne_eqb w 5395521 g, ne_eqb w 5393473 h, ne_eqb w 4997453 i, ne_eqb w 5001805 j)

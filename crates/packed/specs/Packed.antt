@@ -12,8 +12,8 @@
 use Rattle.std.specs.Prelude.{Bool, cond, ◌&&◌, List, [], ◌∷◌, ◌++◌, ℕ, ◌+◌, leb}
 use Rattle.scan.specs.Grammar.{Span, span, place_of, size_of}
 use Rattle.changes.specs.declared.Plan.{Plan}
-use Rattle.types.specs.declared.Number.{Number}
-use Rattle.types.specs.declared.Estimate.{Estimate}
+use Rattle.fields.specs.declared.Number.{Number}
+use Rattle.fields.specs.declared.Estimate.{Estimate}
 use Rattle.types.specs.declared.Parts.{Parts}
 use Rattle.message.specs.declared.Kind.{Kind}
 use Rattle.message.specs.declared.Kind.TheVariants.{None}

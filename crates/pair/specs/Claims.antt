@@ -1,8 +1,7 @@
 -- WHAT DEMAND 3 SPEAKS OF: the record of a flight at an end, a message that names it, and a message that is unanswered.
 use Rattle.std.specs.Prelude.{◌≡◌, ◌⊎◌, Bool, true, false, List, ℕ}
 use Rattle.std.proofs.Math.Option.{Option, none, some}
-use Rattle.places.specs.declared.Place.{Place}
-use Rattle.places.specs.declared.Place.TheVariants.{At, Nowhere}
+use Rattle.places.specs.Place.{Place, At, Nowhere}
 use Rattle.places.specs.Places.{get}
 use Rattle.flights.specs.Table.{place, found}
 use Rattle.unanswered.specs.Waiting.{Waiting}

@@ -12,8 +12,7 @@ use Rattle.reader.specs.Reading.{Judged}
 use Rattle.reader.specs.Reader.{verdict}
 use Rattle.reader.proofs.Judging.{verdict_only}
 use Rattle.head.specs.declared.Head.{Head}
-use Rattle.places.specs.declared.Place.{Place}
-use Rattle.places.specs.declared.Place.TheVariants.{At, Nowhere}
+use Rattle.places.specs.Place.{Place, At, Nowhere}
 use Rattle.places.specs.Bytes.{same, same_is}
 use Rattle.places.specs.Places.{Places, get, found_none}
 use Rattle.unanswered.specs.Waiting.{Waiting, is_answer}

@@ -9,7 +9,7 @@ use native.Mathlib.Omega.{arith}
 use Rattle.message.specs.declared.Record.{Record}
 use Rattle.head.specs.declared.Head.{Head}
 use Rattle.writer.specs.Draft.{Drafted}
-use Rattle.places.specs.declared.Place.TheVariants.{At}
+use Rattle.places.specs.Place.{At}
 use Rattle.places.specs.Places.{get}
 use Rattle.unanswered.specs.Waiting.{Waiting, is_answer}
 use Rattle.memory.specs.End.{End, Memory, waiting_in, end_of, memory_of}

@@ -15,8 +15,7 @@ use Rattle.writer.specs.Draft.{Drafted, numbered}
 use Rattle.head.specs.declared.Standing.{Standing}
 use Rattle.head.specs.declared.Standing.TheVariants.{New, Old, Stale}
 use Rattle.head.specs.Head as h
-use Rattle.places.specs.declared.Place.{Place}
-use Rattle.places.specs.declared.Place.TheVariants.{At, Nowhere}
+use Rattle.places.specs.Place.{Place, At, Nowhere}
 use Rattle.places.specs.Places.{Places, get, set}
 use Rattle.unanswered.specs.Waiting.{Waiting, is_answer}
 use Rattle.deeds.specs.Message.{Message}

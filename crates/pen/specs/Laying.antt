@@ -1,11 +1,12 @@
 -- How a text is laid out: block by block, each with the parts that stand in it.
-use Rattle.std.specs.Prelude.{◌≡◌, refl, ◌⊎◌, Bool, true, false, cond, not, ◌||◌, List, [], ◌∷◌, ◌++◌, ℕ, ◌+◌, ◌≤◌, ◌<◌, length, take, drop, ltb}
+use Rattle.std.specs.Prelude.{◌≡◌, refl, ◌⊎◌, Bool, true, false, cond, not, ◌||◌, List, [], ◌∷◌, ◌++◌, ℕ, ◌+◌, ◌≤◌, ◌<◌, length, take, drop, ltb, Option, Some, None}
 use Rattle.std.proofs.Common.{sym, ap, ◌∙◌, subst, inl, inr, ⊎_elim, append_assoc, append-nil, arith, length-append, lt-ltb, le-ltb, ltb-true, ltb-false}
 use Rattle.std.proofs.lemmas.Bool.{false≢true}
+use Rattle.std.specs.List.{list_any}
 use Rattle.scan.specs.Bools.{known}
 use Rattle.scan.specs.Grammar.{place_of, size_of, Span}
 use Rattle.changes.specs.declared.Plan.{Plan}
-use Rattle.types.specs.declared.Estimate.{Estimate}
+use Rattle.fields.specs.declared.Estimate.{Estimate}
 use Rattle.types.specs.declared.Parts.{Parts}
 use Rattle.splice.specs.Splice.{Spliced, total}
 use Rattle.splice.specs.Splicing.{front, kept_length}
@@ -48,8 +49,21 @@ none_given ks x e = let z : some ks ≡ false = some_total ks ∙ le-ltb 0 (tota
 pub is_given : (ks x : List ℕ) → 0 < total ks → given ks x ≡ x
 is_given ks x h = let z : some ks ≡ true = some_total ks ∙ lt-ltb 0 (total ks) h in rw z
 
+-- where a text ends that is being laid out, and whether all of it fitted
+pub record End : Type 0 where
+  pub at : ℕ
+  pub ok : Bool
+
+-- as a pen has it
+abbrev pub end_of : Option ℕ → End
+end_of None = record { at = 0; ok = false }
+end_of (Some n) = record { at = n; ok = true }
+
+abbrev pub start : End
+start = record { at = 0; ok = true }
+
 -- what stands at the start of the buffer
-pub record Stands (t : List ℕ) (p : Pen) (w : List ℕ) : Type 0 where
+pub record Stands (t : List ℕ) (p : End) (w : List ℕ) : Type 0 where
   pub place : p.at ≡ length w
   pub fits : length w ≤ length t
   pub bytes : take (length w) t ≡ w
@@ -69,7 +83,7 @@ all_inside w f h (k ∷ ks) = (h k, all_inside w f h ks)
 
 -- the blocks xs, with the parts qs in them, were laid out: where all is well they stand behind what stood there, and where
 -- all parts lie within d it is well as long as there is room
-pub record Adds (d t : List ℕ) (p : Pen) (xs : List (List ℕ)) (qs : List Span) (e : List ℕ) (r : Pen) : Type 0 where
+pub record Adds (d t : List ℕ) (p : End) (xs : List (List ℕ)) (qs : List Span) (e : List ℕ) (r : End) : Type 0 where
   pub size : length e ≡ length t
   pub was : r.ok ≡ true → p.ok ≡ true
   pub all : r.ok ≡ true → AllInside d qs
@@ -92,7 +106,7 @@ joined : (w : List ℕ) (xs ys : List (List ℕ)) → (w ++ join xs) ++ join ys 
 joined w xs ys = append_assoc w (join xs) (join ys) ∙ ap (λ (z : List ℕ). w ++ z) (sym (join_append xs ys))
 
 -- ONE AFTER THE OTHER
-pub then : {d t e f : List ℕ} {p r s : Pen} {xs ys : List (List ℕ)} {qs rs : List Span} → Adds d t p xs qs e r → Adds d e r ys rs f s → Adds d t p (xs ++ ys) (qs ++ rs) f s
+pub then : {d t e f : List ℕ} {p r s : End} {xs ys : List (List ℕ)} {qs rs : List Span} → Adds d t p xs qs e r → Adds d e r ys rs f s → Adds d t p (xs ++ ys) (qs ++ rs) f s
 then {d} {t} {e} {f} {p} {r} {s} {xs} {ys} {qs} {rs} a b = record {
   size = b.size ∙ a.size;
   was = λ o. a.was (b.was o);
@@ -105,8 +119,21 @@ then {d} {t} {e} {f} {p} {r} {s} {xs} {ys} {qs} {rs} a b = record {
       (known r.ok);
 }
 
+-- what a pen did: in the buffer that it has it laid out the blocks that xs makes of its source, with the parts qs in them
+pub record Lays (p : Pen) (xs : List ℕ → List (List ℕ)) (qs : List Span) (r : Pen) : Type 0 where
+  pub buffer : r.text.ghost_name ≡ p.text.ghost_name
+  pub source : r.source ≡ p.source
+  pub adds : Adds p.source.now p.text.now (end_of p.end) (xs p.source.now) qs r.text.now (end_of r.end)
+
+pub lays_then : {p r s : Pen} {xs ys : List ℕ → List (List ℕ)} {qs rs : List Span} → Lays p xs qs r → Lays r ys rs s → Lays p (λ d. xs d ++ ys d) (qs ++ rs) s
+lays_then a b = record {
+  buffer = b.buffer ∙ a.buffer;
+  source = b.source ∙ a.source;
+  adds = then a.adds (rw (sym a.source) b.adds);
+}
+
 -- nothing is added
-pub nothing : (d t : List ℕ) (p : Pen) (xs : List (List ℕ)) (qs : List Span) → join xs ≡ [] → AllInside d qs → Adds d t p xs qs t p
+pub nothing : (d t : List ℕ) (p : End) (xs : List (List ℕ)) (qs : List Span) → join xs ≡ [] → AllInside d qs → Adds d t p xs qs t p
 nothing d t p xs qs e i = record {
   size = refl;
   was = λ o. o;
@@ -116,7 +143,7 @@ nothing d t p xs qs e i = record {
 }
 
 -- the same blocks, otherwise written
-pub alike : {d t e : List ℕ} {p r : Pen} {xs ys : List (List ℕ)} {qs : List Span} → join xs ≡ join ys → Adds d t p xs qs e r → Adds d t p ys qs e r
+pub alike : {d t e : List ℕ} {p r : End} {xs ys : List (List ℕ)} {qs : List Span} → join xs ≡ join ys → Adds d t p xs qs e r → Adds d t p ys qs e r
 alike {d} {t} {e} {p} {r} {xs} {ys} {qs} h a = record {
   size = a.size;
   was = a.was;
@@ -125,9 +152,20 @@ alike {d} {t} {e} {p} {r} {xs} {ys} {qs} h a = record {
   off = λ w k o i n. subst (λ (z : List ℕ). length t < length (w ++ z)) h (a.off w k o i n);
 }
 
+-- from the start on; e is what stands in the buffer in the end, and o how long the text is
+pub lays_from_start : {d t e : List ℕ} {o : Option ℕ} {p r : Pen} {xs : List ℕ → List (List ℕ)} {qs : List Span} → p.source.now ≡ d → p.text.now ≡ t → p.end ≡ Some 0 → Lays p xs qs r → r.text.now ≡ e → r.end ≡ o → Adds d t start (xs d) qs e (end_of o)
+lays_from_start {d} {t} {e} {o} {p} {r} {xs} {qs} s b n a f g = rw (sym s, sym b, sym f, sym g) (subst (λ z. Adds p.source.now p.text.now (end_of z) (xs p.source.now) qs r.text.now (end_of r.end)) n a.adds)
+
+-- it fitted, and is n bytes long
+pub fitted : {d t e : List ℕ} {p : End} {xs : List (List ℕ)} {qs : List Span} {o : Option ℕ} (n : ℕ) → o ≡ Some n → Adds d t p xs qs e (end_of o) → Adds d t p xs qs e (end_of (Some n))
+fitted {d} {t} {e} {p} {xs} {qs} n i a = subst (λ z. Adds d t p xs qs e (end_of z)) i a
+
+pub lays_alike : {p r : Pen} {xs ys : List ℕ → List (List ℕ)} {qs : List Span} → ((d : List ℕ) → join (xs d) ≡ join (ys d)) → Lays p xs qs r → Lays p ys qs r
+lays_alike {p = p} e a = record { buffer = a.buffer; source = a.source; adds = alike (e p.source.now) a.adds }
+
 -- A BLOCK
 
-pub stayed : (d t : List ℕ) (p : Pen) (xs : List (List ℕ)) (qs : List Span) → p.ok ≡ false → Adds d t p xs qs t p
+pub stayed : (d t : List ℕ) (p : End) (xs : List (List ℕ)) (qs : List Span) → p.ok ≡ false → Adds d t p xs qs t p
 stayed d t p xs qs e = record {
   size = refl;
   was = λ o. o;
@@ -137,7 +175,7 @@ stayed d t p xs qs e = record {
 }
 
 -- it could not be added, and r says so
-pub failed : (d t : List ℕ) (p r : Pen) (xs : List (List ℕ)) (qs : List Span) → r.ok ≡ false → ((w : List ℕ) → Stands t p w → AllInside d qs → length t < length (w ++ join xs)) → Adds d t p xs qs t r
+pub failed : (d t : List ℕ) (p r : End) (xs : List (List ℕ)) (qs : List Span) → r.ok ≡ false → ((w : List ℕ) → Stands t p w → AllInside d qs → length t < length (w ++ join xs)) → Adds d t p xs qs t r
 failed d t p r xs qs e h = record {
   size = refl;
   was = λ o. absurd (false≢true (sym e ∙ o));
@@ -147,10 +185,10 @@ failed d t p r xs qs e h = record {
 }
 
 -- a block x that is longer than the rest of the buffer
-pub no_room : (d t : List ℕ) (p r : Pen) (x : List ℕ) → r.ok ≡ false → length t < p.at + length x → Adds d t p (x ∷ []) [] t r
+pub no_room : (d t : List ℕ) (p r : End) (x : List ℕ) → r.ok ≡ false → length t < p.at + length x → Adds d t p (x ∷ []) [] t r
 no_room d t p r x e h = failed d t p r (x ∷ []) [] e (λ w s i. omega (arith, s.place, length-append w (x ++ []), length-append x []))
 
-pub added : (d t e : List ℕ) (p r : Pen) (x : List ℕ) → p.ok ≡ true → r.ok ≡ true → p.at + length x ≤ length t → Spliced p.at x t e r.at → Adds d t p (x ∷ []) [] e r
+pub added : (d t e : List ℕ) (p r : End) (x : List ℕ) → p.ok ≡ true → r.ok ≡ true → p.at + length x ≤ length t → Spliced p.at x t e r.at → Adds d t p (x ∷ []) [] e r
 added d t e p r x o v h s = record {
   size = kept_length s (omega (arith, s.place));
   was = λ _. o;
@@ -165,15 +203,22 @@ added d t e p r x o v h s = record {
   off = λ w k y i m. absurd (false≢true (sym m ∙ v));
 }
 
+pub lays_added : (p r : Pen) (k : ℕ) (x : List ℕ) → r.text.ghost_name ≡ p.text.ghost_name → r.source ≡ p.source → p.end ≡ Some k → k + length x ≤ length p.text.now → (m : ℕ) → r.end ≡ Some m → Spliced k x p.text.now r.text.now m → Lays p (λ _. x ∷ []) [] r
+lays_added p r k x b s e v m f h = record {
+  buffer = b;
+  source = s;
+  adds = rw (e, f) (added p.source.now p.text.now r.text.now (end_of (Some k)) (end_of (Some m)) x refl refl v h);
+}
+
 -- A PART
 
-pub absent : (d t : List ℕ) (p : Pen) (q : Span) → size_of q ≡ 0 → Adds d t p (cut d q ∷ []) (q ∷ []) t p
+pub absent : (d t : List ℕ) (p : End) (q : Span) → size_of q ≡ 0 → Adds d t p (cut d q ∷ []) (q ∷ []) t p
 absent d t p q e = nothing d t p (cut d q ∷ []) (q ∷ []) (ap (λ (k : ℕ). take k (drop (place_of q) d) ++ []) e) (inl e, tt)
 
-pub outside : (d t : List ℕ) (p r : Pen) (q : Span) → (size_of q ≡ 0 → ⊥) → length d < place_of q + size_of q → r.ok ≡ false → Adds d t p (cut d q ∷ []) (q ∷ []) t r
+pub outside : (d t : List ℕ) (p r : End) (q : Span) → (size_of q ≡ 0 → ⊥) → length d < place_of q + size_of q → r.ok ≡ false → Adds d t p (cut d q ∷ []) (q ∷ []) t r
 outside d t p r q n h e = failed d t p r (cut d q ∷ []) (q ∷ []) e (λ w s i. ⊎_elim (λ z. absurd (n z)) (λ z. absurd (omega arith)) i.0)
 
-pub within : {d t e : List ℕ} {p r : Pen} {xs : List (List ℕ)} (qs : List Span) → AllInside d qs → Adds d t p xs [] e r → Adds d t p xs qs e r
+pub within : {d t e : List ℕ} {p r : End} {xs : List (List ℕ)} (qs : List Span) → AllInside d qs → Adds d t p xs [] e r → Adds d t p xs qs e r
 within {d} {t} {e} {p} {r} {xs} qs i a = record {
   size = a.size;
   was = a.was;
@@ -181,6 +226,10 @@ within {d} {t} {e} {p} {r} {xs} qs i a = record {
   on = a.on;
   off = λ w s o j n. a.off w s o tt n;
 }
+
+-- with no part in it, it is the same over any other bytes
+pub over_any : {d t e : List ℕ} {p r : End} {xs : List (List ℕ)} (f : List ℕ) → Adds d t p xs [] e r → Adds f t p xs [] e r
+over_any f a = record { size = a.size; was = a.was; all = λ o. tt; on = a.on; off = a.off }
 
 -- WHERE NO PART IS THERE, NOTHING STANDS
 
@@ -192,11 +241,32 @@ all_absent : (d : List ℕ) (qs : List Span) → total (lens qs) ≡ 0 → AllIn
 all_absent d [] e = tt
 all_absent d (q ∷ qs) e = (inl (omega arith), all_absent d qs (omega arith))
 
-pub skipped : (d t : List ℕ) (p : Pen) (qs : List Span) (y : List ℕ) → total (lens qs) ≡ 0 → Adds d t p (given (lens qs) y ∷ []) qs t p
+-- one of the parts is there
+abbrev pub any_of : List Span → Bool
+any_of qs = list_any (λ q. ltb 0 (size_of q)) qs
+
+any_some : (qs : List Span) → any_of qs ≡ some (lens qs)
+any_some [] = refl
+any_some (q ∷ qs) = ap (λ b. ltb 0 (size_of q) || b) (any_some qs)
+
+one_there : (qs : List Span) → any_of qs ≡ true → 0 < total (lens qs)
+one_there qs e = ltb-true 0 (total (lens qs)) (sym (some_total (lens qs)) ∙ sym (any_some qs) ∙ e)
+
+pub is_there : (q : Span) → 0 < size_of q → any_of (q ∷ []) ≡ true
+is_there q h = rw (lt-ltb 0 (size_of q) h)
+
+pub skipped : (d t : List ℕ) (p : End) (qs : List Span) (y : List ℕ) → total (lens qs) ≡ 0 → Adds d t p (given (lens qs) y ∷ []) qs t p
 skipped d t p qs y e = nothing d t p (given (lens qs) y ∷ []) qs (ap (λ (z : List ℕ). z ++ []) (none_given (lens qs) y e)) (all_absent d qs e)
 
-pub stands : {d t e : List ℕ} {p r : Pen} {xs : List (List ℕ)} {qs : List Span} (y : List ℕ) → 0 < total (lens qs) → join xs ≡ y → Adds d t p xs qs e r → Adds d t p (given (lens qs) y ∷ []) qs e r
+pub stands : {d t e : List ℕ} {p r : End} {xs : List (List ℕ)} {qs : List Span} (y : List ℕ) → 0 < total (lens qs) → join xs ≡ y → Adds d t p xs qs e r → Adds d t p (given (lens qs) y ∷ []) qs e r
 stands {qs = qs} y h e a = alike (e ∙ sym (append-nil y) ∙ ap (λ (z : List ℕ). z ++ []) (sym (is_given (lens qs) y h))) a
+
+pub lays_given : {p r : Pen} {xs : List ℕ → List (List ℕ)} {qs : List Span} (y : List ℕ → List ℕ) → any_of qs ≡ true → ((d : List ℕ) → join (xs d) ≡ y d) → Lays p xs qs r → Lays p (λ d. given (lens qs) (y d) ∷ []) qs r
+lays_given {p = p} {qs = qs} y h e a = record {
+  buffer = a.buffer;
+  source = a.source;
+  adds = stands (y p.source.now) (one_there qs h) (e p.source.now) a.adds;
+}
 
 pub given_parts : (d : List ℕ) (qs : List Span) (x : List ℕ) → (total (lens qs) ≡ 0 → x ≡ []) → given (lens qs) x ≡ x
 given_parts d qs x h = ⊎_elim (λ e. is_given (lens qs) x (ltb-true 0 (total (lens qs)) e)) (λ e. let z : total (lens qs) ≡ 0 = omega (arith, ltb-false 0 (total (lens qs)) e) in none_given (lens qs) x z ∙ sym (h z)) (known (ltb 0 (total (lens qs))))
@@ -211,6 +281,10 @@ text_number d a b c = cut d a ++ (47 ∷ (cut d b ++ cut d c))
 
 abbrev pub text_reference : List ℕ → Span → Span → Span → List ℕ
 text_reference d a b c = given (size_of a ∷ size_of b ∷ size_of c ∷ []) (text_number d a b c)
+
+-- two parts, each with what leads it, of which the second may be absent
+abbrev pub text_two : List ℕ → List ℕ → List ℕ → Span → Span → List ℕ
+text_two lead between d a b = given (size_of a ∷ size_of b ∷ []) (lead ++ (cut d a ++ led_by between d b))
 
 abbrev pub text07 : List ℕ → List ℕ → Span → Span → List ℕ
 text07 lead d a b = given (size_of a ∷ size_of b ∷ []) (lead ++ (cut d a ++ led_by (47 ∷ 65 ∷ []) d b))
@@ -251,8 +325,11 @@ text18 lead d a b = given (size_of a ∷ size_of b ∷ []) (lead ++ cond (not (s
 pub own_part : (d : List ℕ) (a : Span) → led_by [] d a ≡ cut d a
 own_part d a = given_parts d (a ∷ []) (cut d a) (λ e. cut_none d a (omega arith))
 
-pub pair_both : {t e : List ℕ} {p r : Pen} (lead d : List ℕ) (a b : Span) → Adds d t p (text_pair lead d a b ∷ []) (a ∷ b ∷ []) e r → Adds d t p (text_both lead d a b ∷ []) (a ∷ b ∷ []) e r
+pub pair_both : {t e : List ℕ} {p r : End} (lead d : List ℕ) (a b : Span) → Adds d t p (text_pair lead d a b ∷ []) (a ∷ b ∷ []) e r → Adds d t p (text_both lead d a b ∷ []) (a ∷ b ∷ []) e r
 pair_both lead d a b x = alike (ap (λ (z : List ℕ). given (size_of a ∷ size_of b ∷ []) (lead ++ (cut d a ++ z)) ++ []) (own_part d b)) x
+
+pub lays_both : {p r : Pen} (lead : List ℕ) (a b : Span) → Lays p (λ d. text_pair lead d a b ∷ []) (a ∷ b ∷ []) r → Lays p (λ d. text_both lead d a b ∷ []) (a ∷ b ∷ []) r
+lays_both {p = p} lead a b l = record { buffer = l.buffer; source = l.source; adds = pair_both lead p.source.now a b l.adds }
 
 pub form_18 : (d : List ℕ) (a b : Span) → cut d a ++ led_by (47 ∷ []) d b ≡ cond (not (some (size_of b ∷ size_of b ∷ []))) (cut d a) (cut d a ++ (47 ∷ cut d b))
 form_18 d a b = go (known (ltb 0 (size_of b)))
@@ -319,9 +396,6 @@ blocks opening d p =
 
 abbrev pub spans : Parts → List Span
 spans p = p.number.sender ∷ p.number.receiver ∷ p.number.digits ∷ rest_spans p
-
-abbrev pub start : Pen
-start = record { at = 0; ok = true }
 
 unfoldable pub opening : Kind → List ℕ
 opening None = 40 ∷ 32 ∷ 32 ∷ 32 ∷ []

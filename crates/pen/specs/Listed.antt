@@ -3,7 +3,7 @@ use Rattle.std.specs.Prelude.{◌≡◌, ◌⊎◌, List, [], ◌∷◌, ◌++�
 use Rattle.scan.specs.Grammar.{place_of, size_of, Span, Part, look}
 use Rattle.fields.specs.Names as n
 use Rattle.changes.specs.declared.Plan.{Plan}
-use Rattle.types.specs.declared.Number.{Number}
+use Rattle.fields.specs.declared.Number.{Number}
 use Rattle.types.specs.declared.Parts.{Parts}
 use Rattle.message.specs.declared.Record.{Record}
 

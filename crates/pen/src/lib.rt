@@ -1,76 +1,85 @@
 // Lays a text out part by part.
 #![tactic(auto)]
 
-ghost use Rattle.std.specs.Prelude.{List, [], ◌∷◌, ℕ};
+ghost use Rattle.std.specs.Prelude.{◌≡◌, [], ◌∷◌, Some};
 ghost use Rattle.reader.specs.Reading.{cut};
-ghost use Rattle.pen.specs.Laying.{Adds, led_by, text_number};
+ghost use Rattle.pen.specs.Laying.{Lays, led_by, text_number};
 
 use scan::Span;
 
 pub mod field_texts;
 
-// Where a text ends that is being laid out, and whether all of it fitted.
-#[derive(Clone, Copy)]
-pub struct Pen {
-    pub at: usize,
-    pub ok: bool,
+// A text that is being laid out in a buffer, of parts of a source and of what stands between them.
+#[derive(Drop)]
+pub struct Pen<'a> {
+    text: &'a mut [u8],
+    source: &'a [u8],
+    // Where the text ends; none, from the first piece on that could not be added.
+    pub end: Option<usize>,
 }
 
-// Adds bytes.
-pub fn add(text: &mut [u8], p: Pen, src: &[u8]) -> Pen
-    ensures { (d : List ℕ) → Adds d text.old p (src.now ∷ []) [] text.new result }
-{
-    let at = p.at;
-    if !p.ok {
-        return p;
+impl<'a> Pen<'a> {
+    // Nothing is laid out yet.
+    pub fn start(text: &'a mut [u8], source: &'a [u8]) -> Pen<'a>
+        ensures buffer { result.text.ghost_name ≡ text.entry.ghost_name }
+        ensures text { result.text.now ≡ text.old }
+        ensures source { result.source.now ≡ source.now }
+        ensures end { result.end ≡ Some 0 }
+    {
+        Pen {
+            text,
+            source,
+            end: Some(0),
+        }
     }
-    if text.len() < at {
-        return Pen { at, ok: false };
-    }
-    if text.len() - at < src.len() {
-        return Pen { at, ok: false };
-    }
-    Pen {
-        at: splice::put(text, at, src),
-        ok: true,
-    }
-}
 
-// Adds a part; one that is there has to lie within d.
-pub fn add_part(text: &mut [u8], p: Pen, d: &[u8], q: Span) -> Pen
-    ensures { Adds d.now text.old p (cut d.now q ∷ []) (q ∷ []) text.new result }
-{
-    let at = (q / 65536) as usize;
-    let len = (q % 65536) as usize;
-    if len == 0 {
-        return p;
-    }
-    let end = at + len;
-    if d.len() < end {
-        return Pen {
-            at: p.at,
-            ok: false,
+    // Adds bytes.
+    pub fn add(&mut self, src: &[u8])
+        ensures { Lays self.old (λ _. src.now ∷ []) [] self.new }
+    {
+        let Some(at) = self.end else {
+            return;
         };
+        if self.text.len() < at || self.text.len() - at < src.len() {
+            self.end = None;
+            return;
+        }
+        self.end = Some(splice::put(self.text, at, src));
     }
-    add(text, p, &d[at..end])
-}
 
-// Adds a part with what leads it, where it is there.
-pub fn add_led<'a>(text: &mut [u8], p: Pen, d: &'a [u8], lead: &'a [u8], a: Span) -> Pen
-    ensures { Adds d.now text.old p (led_by lead.now d.now a ∷ []) (a ∷ []) text.new result }
-{
-    if a % 65536 == 0 {
-        return p;
+    // Adds a part; one that is there has to lie within the source.
+    pub fn add_part(&mut self, q: Span)
+        ensures { Lays self.old (λ d. cut d q ∷ []) (q ∷ []) self.new }
+    {
+        let at = (q / 65536) as usize;
+        let len = (q % 65536) as usize;
+        if len == 0 {
+            return;
+        }
+        match self.source.get(at..at + len) {
+            Some(part) => self.add(part),
+            None => self.end = None,
+        }
     }
-    let p1 = add(text, p, lead);
-    add_part(text, p1, d, a)
-}
 
-pub fn add_number(text: &mut [u8], p: Pen, d: &[u8], a: Span, b: Span, c: Span) -> Pen
-    ensures { Adds d.now text.old p (text_number d.now a b c ∷ []) (a ∷ b ∷ c ∷ []) text.new result }
-{
-    let p1 = add_part(text, p, d, a);
-    let p2 = add(text, p1, b"/");
-    let p3 = add_part(text, p2, d, b);
-    add_part(text, p3, d, c)
+    // Adds a part with what leads it, where it is there.
+    pub fn add_led(&mut self, lead: &[u8], a: Span)
+        ensures { Lays self.old (λ d. led_by lead.now d a ∷ []) (a ∷ []) self.new }
+    {
+        if a % 65536 == 0 {
+            return;
+        }
+        self.add(lead);
+        self.add_part(a);
+    }
+
+    #[inline(always)]
+    pub fn add_number(&mut self, a: Span, b: Span, c: Span)
+        ensures { Lays self.old (λ d. text_number d a b c ∷ []) (a ∷ b ∷ c ∷ []) self.new }
+    {
+        self.add_part(a);
+        self.add(b"/");
+        self.add_part(b);
+        self.add_part(c);
+    }
 }

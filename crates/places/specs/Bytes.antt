@@ -1,6 +1,7 @@
 -- Stretches of one byte, texts that are the same, and numbers of two bytes.
 use Rattle.std.specs.Prelude.{◌≡◌, refl, Bool, true, false, ◌&&◌, List, [], ◌∷◌, ℕ, zero, suc, ◌+◌, ◌*◌, ◌/◌, ◌%◌, ◌≤◌, ◌<◌, length, drop, get_or, replicate, eqb, leb}
-use Rattle.std.proofs.Common.{sym, ap, ◌∙◌, subst, arith, add-one, drop-cons, eqb-true, eq-eqb}
+use Rattle.std.specs.Cmp.Lexicographic.{pointwise, bytes_decides}
+use Rattle.std.proofs.Common.{sym, ◌∙◌, subst, arith, add-one, drop-cons, eqb-true, eq-eqb}
 use Rattle.std.proofs.lemmas.Bool.{false≢true}
 use Rattle.std.proofs.Math.Seq.{drop-length}
 use Rattle.scan.specs.Bools.{and_l, and_r, both, Decides, equals, at_most}
@@ -47,48 +48,11 @@ stretch_is v s k e = subst (λ (x : ℕ). Decides (each v s) (s ≡ replicate x 
 -- THE SAME BYTES
 
 unfoldable pub same : List ℕ → List ℕ → Bool
-same [] [] = true
-same [] (y ∷ b) = false
-same (x ∷ a) [] = false
-same (x ∷ a) (y ∷ b) = eqb x y && same a b
+same a b = pointwise eqb a b
 
 pub same_is : (a b : List ℕ) → Decides (same a b) (a ≡ b)
 unfolding same
-same_is a b = record { yes = yes a b; no = λ e. go a b e }
-  where
-    yes : (a b : List ℕ) → same a b ≡ true → a ≡ b
-    yes [] [] e = refl
-    yes [] (y ∷ b) e = absurd (false≢true e)
-    yes (x ∷ a) [] e = absurd (false≢true e)
-    yes (x ∷ a) (y ∷ b) e = let z : x ≡ y = eqb-true x y (and_l (eqb x y) (same a b) e) in λ i. z i ∷ yes a b (and_r (eqb x y) (same a b) e) i
-
-    itself : (a : List ℕ) → same a a ≡ true
-    itself [] = refl
-    itself (x ∷ a) = both (eqb x x) (same a a) (eq-eqb x x refl) (itself a)
-
-    go : (a b : List ℕ) → a ≡ b → same a b ≡ true
-    go a b e = ap (same a) (sym e) ∙ itself a
-
-pub same_more : (a b : List ℕ) (i : ℕ) (ok t : Bool) → i < length a → i < length b → t ≡ (ok && same (drop i a) (drop i b)) → t ≡ ((ok && eqb (get_or a i 0) (get_or b i 0)) && same (drop (i + 1) a) (drop (i + 1) b))
-unfolding same
-same_more a b i true t h k e = e ∙ rw (drop-cons a i 0 h, drop-cons b i 0 k, add-one i)
-same_more a b i false t h k e = e
-
-pub same_done : (a b : List ℕ) (i : ℕ) (ok t : Bool) → length a ≡ length b → i ≡ length a → t ≡ (ok && same (drop i a) (drop i b)) → ok ≡ t
-unfolding same
-same_done a b i true t n m e = let k : i ≡ length b = m ∙ n in sym (e ∙ (λ j. same (drop (m j) a) (drop (k j) b)) ∙ rw (drop-length a, drop-length b))
-same_done a b i false t n m e = sym e
-
-pub same_length : (a b : List ℕ) → (length a ≡ length b → ⊥) → same a b ≡ false
-unfolding same
-same_length [] [] n = absurd (n refl)
-same_length [] (y ∷ b) n = refl
-same_length (x ∷ a) [] n = refl
-same_length (x ∷ a) (y ∷ b) n = go (eqb x y) (same_length a b (λ e. n (ap suc e)))
-  where
-    go : (t : Bool) → same a b ≡ false → t && same a b ≡ false
-    go true r = r
-    go false r = refl
+same_is a b = let d = bytes_decides a b in record { yes = d.0; no = d.1 }
 
 -- NUMBERS, high byte first
 

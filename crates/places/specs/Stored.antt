@@ -10,7 +10,7 @@ use Rattle.std.proofs.Math.ListN.{length, take, drop, replicate, length-append, 
 use Rattle.std.proofs.Math.Seq.{take_at, drop_at}
 use Rattle.splice.specs.Splice.{splice}
 use Rattle.splice.specs.Inside.{splice_front, splice_behind}
-use Rattle.places.specs.declared.Place.TheVariants.{At}
+use Rattle.places.specs.Place.{At}
 use Rattle.places.specs.Search.{first_from, count_from}
 use Rattle.places.specs.Places.{Places, is_free, get, set, first_of, used, Every, empty}
 use Rattle.places.specs.Forms.{Form, bytes_or, bytes_of, places_from, place_at}

@@ -4,40 +4,23 @@
 ghost use Rattle.std.specs.Prelude.{◌≡◌, ◌+◌, ◌≤◌, length};
 ghost use Rattle.places.specs.Bytes.{each, same as same_b, number_at, word_at};
 
-// Where something is.
-#[derive(Clone, Copy)]
-pub enum Place {
-    At(usize),
-    Nowhere,
-}
-
 // Whether every byte is v. It looks at each before it answers: a loop with no way out becomes vector code.
 pub fn all_are(s: &[u8], v: u8) -> bool
     ensures { result ≡ each v s.now }
 {
     let mut ok = true;
-    let mut i = 0;
-    while i < s.len() {
-        ok = ok & (s[i] == v);
-        i += 1;
+    for &b in s {
+        ok = ok & (b == v);
     }
     ok
 }
 
-// Whether two texts are the same. It looks at every byte before it answers.
+// Whether two texts are the same.
+#[tactic(auto, unfolding(crate::specs::Bytes::same))]
 pub fn same(a: &[u8], b: &[u8]) -> bool
     ensures { result ≡ same_b a.now b.now }
 {
-    if a.len() != b.len() {
-        return false;
-    }
-    let mut ok = true;
-    let mut i = 0;
-    while i < a.len() {
-        ok = ok & (a[i] == b[i]);
-        i += 1;
-    }
-    ok
+    a == b
 }
 
 // A number of two bytes, high byte first.
@@ -45,7 +28,7 @@ pub fn number_at(b: &[u8], at: usize) -> usize
     requires { at + 2 ≤ length b.now }
     ensures { result ≡ number_at at b.now }
 {
-    scan::wide(b[at]) * 256 + scan::wide(b[at + 1])
+    u16::from_be_bytes([b[at], b[at + 1]]) as usize
 }
 
 // Four bytes as one number, the first counting least, which the compiler makes one load of.
@@ -53,8 +36,5 @@ pub fn word_at(b: &[u8], at: usize) -> usize
     requires { at + 4 ≤ length b.now }
     ensures { result ≡ word_at at b.now }
 {
-    scan::wide(b[at])
-        + scan::wide(b[at + 1]) * 256
-        + scan::wide(b[at + 2]) * 65536
-        + scan::wide(b[at + 3]) * 16777216
+    u32::from_le_bytes([b[at], b[at + 1], b[at + 2], b[at + 3]]) as usize
 }

@@ -17,6 +17,8 @@ use Rattle.scan.specs.Picks.{Same, Begins, it, in_seq, in_part, in_field, begins
 use Rattle.scan.specs.Tests.{good, good_test}
 use Rattle.scan.specs.Picks.{sunder, sunder_test, outrun}
 use Rattle.fields.specs.Names as n
+use Rattle.fields.specs.Chosen.{after_three, after_four, after_vfr, speed_knots, speed_mach}
+use Rattle.fields.specs.Numbers.{numbered_is, numbered_spans}
 use Rattle.fields.specs.declared.Found09.{Found09}
 use Rattle.fields.specs.Fields.{in07, in08, in09, counted, wake_letter, in10, in13, in13o, in16, alternates, timed, minute, g07, g08, g10, g13, g13o, g16, rules_letter, flight_letter}
 use Rattle.fields.specs.Found.{found07, found08, found09, found10, found13, found13o, found16}
@@ -184,3 +186,6 @@ module _ (s : List ℕ) (r : Scan) where
   bare16 e x p =
       let m = opt_off (Byte 32) (byte 32 ⨾ part n.alternate (run Letter 4 4) ⨾ opt (byte 32 ⨾ part n.alternate2 (run Letter 4 4))) s elapsed (in_seq it) e in
       λ i. record { end = sym m.0 i; destination = between16 r placed; elapsed = p i; alternate = sym (m.1 n.alternate) i; alternate2 = sym (m.1 n.alternate2) i }
+
+-- what the tests of the code leave
+pub ruleset exits = (stops_model, letter09, stops07, bare07, coded07, stops08, bare08, whole08, stops10, half10, stops13, stops13o, bare13o, timed13o, stops16, bare16, after_three, after_four, after_vfr, speed_knots, speed_mach, numbered_is, numbered_spans)

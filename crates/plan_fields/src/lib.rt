@@ -1,5 +1,5 @@
 // Message numbers and the fields of a plan, each with its parts.
-#![tactic(auto)]
+#![tactic(auto, using(fields::specs::Forth::goes_forth, crate::specs::Exits::exits), unfolding(fields::specs::Found::found_rules, crate::specs::Exits::found_model))]
 
 ghost use Rattle.std.specs.Prelude.{◌≡◌, true, ◌≤◌};
 ghost use Rattle.scan.specs.Scanner.{scan as scan_g};
@@ -8,17 +8,14 @@ ghost use Rattle.fields.specs.Numbers.{Numbered};
 ghost use Rattle.plan_fields.specs.Exits.{found_model};
 ghost use Rattle.fields.specs.Found.{found_number, found07, found08, found09, found10, found13, found13o, found_routed, found_after15, found_sped, found15, found_alternates, found16};
 
-use fields::{Found07, Found08, Found09, Found10, Found13, Found15, Found16, FoundNumber};
+use fields::{Found, Found07, Found08, Found09, Found10, Found13, Found15, Found16, Number};
 use scan::{Class, Scan, Span};
 
 // Whether a whole number stands at `at`. One test for all twelve bytes costs less than one for each piece.
 fn numbered(s: &[u8], at: usize) -> bool
     ensures { result ≡ true → Numbered s.now at }
 {
-    if s.len() < 12 {
-        return false;
-    }
-    if s.len() - 12 < at {
+    if s.len() < 12 || s.len() - 12 < at {
         return false;
     }
     let a = scan::all_in(&s[at..at + 4], b'A', b'Z', b'A', b'Z');
@@ -29,7 +26,7 @@ fn numbered(s: &[u8], at: usize) -> bool
 }
 
 // A message number, or a reference. Nearly always it is whole; only if not, piece by piece.
-pub fn number(s: &[u8], r: Scan) -> FoundNumber
+pub fn number(s: &[u8], r: Scan) -> Found<Number>
     ensures { result ≡ found_number s.now r }
 {
     let at = r.next;
@@ -50,22 +47,27 @@ pub fn number(s: &[u8], r: Scan) -> FoundNumber
             next: at + 12,
             ok: true,
         };
-        return FoundNumber {
+        Found {
             end: d,
-            sender: scan::between(r, a),
-            receiver: scan::between(b, c),
-            digits: scan::between(c, d),
-        };
-    }
-    let a = scan::letters(s, r, 4);
-    let b = scan::byte(s, a, b'/');
-    let c = scan::letters(s, b, 4);
-    let d = scan::digits(s, c, 3);
-    FoundNumber {
-        end: d,
-        sender: scan::between(r, a),
-        receiver: scan::between(b, c),
-        digits: scan::between(c, d),
+            parts: Number {
+                sender: scan::between(r, a),
+                receiver: scan::between(b, c),
+                digits: scan::between(c, d),
+            },
+        }
+    } else {
+        let a = scan::letters(s, r, 4);
+        let b = scan::byte(s, a, b'/');
+        let c = scan::letters(s, b, 4);
+        let d = scan::digits(s, c, 3);
+        Found {
+            end: d,
+            parts: Number {
+                sender: scan::between(r, a),
+                receiver: scan::between(b, c),
+                digits: scan::between(c, d),
+            },
+        }
     }
 }
 
@@ -249,6 +251,7 @@ pub fn field13o(s: &[u8], r: Scan) -> Found13
 }
 
 // A level that was scanned from r to l, then a blank and words of at most k bytes.
+#[tactic(auto, using(fields::specs::Forth::goes_forth), unfolding(fields::specs::Found::found_routed))]
 fn routed(s: &[u8], r: Scan, l: Scan, k: usize) -> Found15
     requires { r.next ≤ l.next }
     ensures { result ≡ found_routed s.now r l k }
@@ -270,28 +273,26 @@ fn after15(s: &[u8], r: Scan, k: usize) -> Found15
 {
     let a = scan::one_of(s, r, b'F', b'A', b'A', b'A', b'A');
     if a.ok {
-        return routed(s, r, scan::digits(s, a, 3), k - 5);
+        routed(s, r, scan::digits(s, a, 3), k - 5)
+    } else {
+        let b = scan::one_of(s, r, b'S', b'M', b'M', b'M', b'M');
+        if b.ok {
+            routed(s, r, scan::digits(s, b, 4), k - 6)
+        } else {
+            routed(s, r, scan::lit(s, r, b"VFR"), k - 4)
+        }
     }
-    let b = scan::one_of(s, r, b'S', b'M', b'M', b'M', b'M');
-    if b.ok {
-        return routed(s, r, scan::digits(s, b, 4), k - 6);
-    }
-    routed(s, r, scan::lit(s, r, b"VFR"), k - 4)
 }
 
 // Field 15 with a speed that was scanned from r to v, and k bytes left.
+#[tactic(auto, unfolding(fields::specs::Found::found_sped))]
 fn sped(s: &[u8], r: Scan, v: Scan, k: usize) -> Found15
     requires { (7 ≤ k) × (r.next ≤ v.next) }
     ensures { result ≡ found_sped s.now r v k }
 {
-    let speed = scan::between(r, v);
-    let a = after15(s, v, k);
-    let end = a.end;
     Found15 {
-        end,
-        speed,
-        level: a.level,
-        route: a.route,
+        speed: scan::between(r, v),
+        ..after15(s, v, k)
     }
 }
 
@@ -300,10 +301,10 @@ pub fn field15(s: &[u8], r: Scan) -> Found15
 {
     let a = scan::one_of(s, r, b'K', b'N', b'N', b'N', b'N');
     if a.ok {
-        return sped(s, r, scan::digits(s, a, 4), 295);
+        sped(s, r, scan::digits(s, a, 4), 295)
+    } else {
+        sped(s, r, scan::digits(s, scan::byte(s, r, b'M'), 3), 296)
     }
-    let b = scan::byte(s, r, b'M');
-    sped(s, r, scan::digits(s, b, 3), 296)
 }
 
 // Up to two alternates, each a blank and four letters.
@@ -331,8 +332,7 @@ pub fn rest16(s: &[u8], r: Scan) -> Scan
 {
     let h = scan::digits(s, r, 2);
     let b = fields::minute(s, h);
-    let c = alternates(s, scan::longer(r, b));
-    c.end
+    alternates(s, scan::longer(r, b)).end
 }
 
 pub fn field16(s: &[u8], r: Scan) -> Found16
@@ -364,13 +364,9 @@ pub fn field16(s: &[u8], r: Scan) -> Found16
             alternate2: n,
         };
     }
-    let c = alternates(s, l);
-    let end = c.end;
     Found16 {
-        end,
         destination,
         elapsed,
-        alternate: c.alternate,
-        alternate2: c.alternate2,
+        ..alternates(s, l)
     }
 }

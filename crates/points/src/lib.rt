@@ -1,5 +1,5 @@
 // Points, and field 14 that begins with one.
-#![tactic(auto)]
+#![tactic(auto, using(fields::specs::Forth::goes_forth, crate::specs::Exits::exits), unfolding(fields::specs::Found::found_rules))]
 
 ghost use Rattle.std.specs.Prelude.{◌≡◌, ◌&&◌, not};
 ghost use Rattle.scan.specs.declared.Class.TheVariants.{Alnum};
@@ -9,10 +9,11 @@ ghost use Rattle.fields.specs.Fields.{bearing_from, degrees as degrees_g, minute
 ghost use Rattle.fields.specs.Chosen.{OfPoint};
 ghost use Rattle.fields.specs.Found.{found14};
 
-use fields::Found14;
+use fields::{Estimate, Found};
 use scan::Scan;
 
 // A name of k letters or digits, with bearing and distance.
+#[tactic(auto, using(crate::specs::Exits::exits), unfolding(fields::specs::Fields::bearing_from))]
 fn bearing_from(s: &[u8], r: Scan, k: usize) -> Scan
     ensures { result ≡ scan_g (bearing_from k) s.now r }
 {
@@ -25,6 +26,7 @@ fn bearing_from(s: &[u8], r: Scan, k: usize) -> Scan
 }
 
 // As 46N078W.
+#[tactic(auto, using(crate::specs::Exits::exits), unfolding(fields::specs::Fields::degrees))]
 fn degrees(s: &[u8], r: Scan) -> Scan
     ensures { result ≡ scan_g degrees_g s.now r }
 {
@@ -46,6 +48,7 @@ fn degrees(s: &[u8], r: Scan) -> Scan
 }
 
 // As 4620N07805W.
+#[tactic(auto, using(crate::specs::Exits::exits), unfolding(fields::specs::Fields::minutes))]
 fn minutes(s: &[u8], r: Scan) -> Scan
     ensures { result ≡ scan_g minutes_g s.now r }
 {
@@ -78,26 +81,18 @@ fn ended(s: &[u8], r: Scan) -> bool
 fn form_of(s: &[u8], r: Scan, n: usize) -> Scan
     ensures { OfPoint s.now r result }
 {
-    if n == 2 {
-        return degrees(s, r);
+    match n {
+        2 => degrees(s, r),
+        3..=5 => bearing_from(s, r, n - 1),
+        _ => {
+            let m = minutes(s, r);
+            if m.ok { m } else { bearing_from(s, r, 5) }
+        }
     }
-    if n == 3 {
-        return bearing_from(s, r, 2);
-    }
-    if n == 4 {
-        return bearing_from(s, r, 3);
-    }
-    if n == 5 {
-        return bearing_from(s, r, 4);
-    }
-    let m = minutes(s, r);
-    if m.ok {
-        return m;
-    }
-    bearing_from(s, r, 5)
 }
 
 // All forms of a point.
+#[tactic(auto, using(crate::specs::Exits::exits), unfolding(fields::specs::Fields::pointed))]
 fn any_point(s: &[u8], r: Scan) -> Scan
     ensures { result ≡ scan_g pointed s.now r }
 {
@@ -129,19 +124,14 @@ fn point(s: &[u8], r: Scan) -> Scan
 }
 
 // Most have one level, and then no letter follows it.
-pub fn field14(s: &[u8], r: Scan) -> Found14
+pub fn field14(s: &[u8], r: Scan) -> Found<Estimate>
     ensures { result ≡ found14 s.now r }
 {
     let a = point(s, r);
-    let n = scan::none();
     if !a.ok {
-        return Found14 {
+        return Found {
             end: a,
-            point: n,
-            over: n,
-            crossing: n,
-            second: n,
-            sense: n,
+            parts: Estimate::default(),
         };
     }
     let point = scan::between(r, a);
@@ -149,37 +139,33 @@ pub fn field14(s: &[u8], r: Scan) -> Found14
     let c = fields::time(s, b);
     let over = scan::between(b, c);
     let d = fields::level(s, c);
-    let crossing = scan::between(c, d);
+    let first = Estimate {
+        point,
+        over,
+        crossing: scan::between(c, d),
+        ..Estimate::default()
+    };
     if !d.ok {
-        return Found14 {
+        return Found {
             end: d,
-            point,
-            over,
-            crossing,
-            second: n,
-            sense: n,
+            parts: first,
         };
     }
     let e = fields::level(s, d);
-    if !e.ok & (e.next == d.next) {
-        return Found14 {
+    if !e.ok && e.next == d.next {
+        return Found {
             end: d,
-            point,
-            over,
-            crossing,
-            second: n,
-            sense: n,
+            parts: first,
         };
     }
     let f = scan::one_of(s, e, b'A', b'B', b'B', b'B', b'B');
-    let second = scan::either(d, f, n, scan::between(d, e));
-    let sense = scan::either(d, f, n, scan::between(e, f));
-    Found14 {
+    let n = scan::none();
+    Found {
         end: scan::longer(d, f),
-        point,
-        over,
-        crossing,
-        second,
-        sense,
+        parts: Estimate {
+            second: scan::either(d, f, n, scan::between(d, e)),
+            sense: scan::either(d, f, n, scan::between(e, f)),
+            ..first
+        },
     }
 }

@@ -1,9 +1,9 @@
 -- Laws of hyphens.
-use Rattle.std.specs.Prelude.{◌≡◌, refl, Bool, true, false, cond, List, [], ◌∷◌, ℕ, zero, suc, ◌+◌, ◌-◌, ◌≤◌, ◌<◌, get_or, take, drop, eqb}
+use Rattle.std.specs.Prelude.{◌≡◌, Bool, true, false, cond, List, [], ◌∷◌, ◌++◌, ℕ, suc, ◌+◌, ◌≤◌, ◌<◌, get_or, drop, eqb}
 use native.Mathlib.Omega.{arith}
 use Rattle.std.proofs.Math.Numerals.{add-one}
 use Rattle.std.proofs.Math.ListN.{length}
-use Rattle.std.proofs.Common.{drop-cons, drop-drop}
+use Rattle.std.proofs.Common.{drop-cons}
 use Rattle.std.proofs.Math.Seq.{drop-length}
 use borrow.Author.Tests.{eq-eqb, ne_eqb}
 use Rattle.reader.specs.Reading.{hyphens}
@@ -22,37 +22,26 @@ module _ (s : List ℕ) (i : ℕ) where
   unfolding hyphens
   hyphen_end h k = let e : i ≡ length s = omega arith in rw (e, drop-length s)
 
--- hyphens, one part after the other
-hyphen_few : (k : ℕ) (t : List ℕ) → hyphens (take k t) ≤ k
-unfolding hyphens
-hyphen_few zero t = omega arith
-hyphen_few (suc k) [] = omega arith
-hyphen_few (suc k) (x ∷ t) = go (eqb x 45) (hyphen_few k t)
-  where
-    go : (b : Bool) → hyphens (take k t) ≤ k → cond b (suc (hyphens (take k t))) (hyphens (take k t)) ≤ suc k
-    go true h = omega arith
-    go false h = omega arith
+pub ruleset steps = (hyphen_on, hyphen_off, hyphen_end)
 
-hyphen_split : (k : ℕ) (t : List ℕ) → hyphens t ≡ hyphens (take k t) + hyphens (drop k t)
+-- hyphens of two parts, the second after the first
+pub hyphens_append : (s t : List ℕ) → hyphens (s ++ t) ≡ hyphens s + hyphens t
 unfolding hyphens
-hyphen_split zero t = omega arith
-hyphen_split (suc k) [] = refl
-hyphen_split (suc k) (x ∷ t) = go (eqb x 45) (hyphen_split k t)
+hyphens_append [] t = omega arith
+hyphens_append (x ∷ s) t = go (eqb x 45) (hyphens_append s t)
   where
-    go : (b : Bool) → hyphens t ≡ hyphens (take k t) + hyphens (drop k t) → cond b (suc (hyphens t)) (hyphens t) ≡ cond b (suc (hyphens (take k t))) (hyphens (take k t)) + hyphens (drop k t)
+    go : (b : Bool) → hyphens (s ++ t) ≡ hyphens s + hyphens t → cond b (suc (hyphens (s ++ t))) (hyphens (s ++ t)) ≡ cond b (suc (hyphens s)) (hyphens s) + hyphens t
     go true e = omega arith
     go false e = e
 
-pub hyphen_block : (s : List ℕ) (i k : ℕ) → hyphens (drop i s) ≡ hyphens (take (i + k - i) (drop i s)) + hyphens (drop (i + k) s)
-hyphen_block s i k =
-    let n : i + k - i ≡ k = omega arith in
-    rw (n, ← drop-drop k i s) (hyphen_split k (drop i s))
+-- no text has more hyphens than bytes
+pub hyphens_within : (s : List ℕ) → hyphens s ≤ length s
+unfolding hyphens
+hyphens_within [] = omega arith
+hyphens_within (x ∷ s) = go (eqb x 45) (hyphens_within s)
+  where
+    go : (b : Bool) → hyphens s ≤ length s → cond b (suc (hyphens s)) (hyphens s) ≤ suc (length s)
+    go true h = omega arith
+    go false h = omega arith
 
-pub hyphen_part : (s : List ℕ) (i k : ℕ) → hyphens (take (i + k - i) (drop i s)) ≤ k
-hyphen_part s i k = let n : i + k - i ≡ k = omega arith in rw n (hyphen_few k (drop i s))
-
-pub hyphen_rest : (s : List ℕ) (i : ℕ) → i ≤ length s → hyphens (take (length s - i) (drop i s)) ≡ hyphens (drop i s)
-hyphen_rest s i h =
-    let e : hyphens (drop (i + (length s - i)) s) ≡ 0 = hyphen_end s (i + (length s - i)) (omega arith) (omega arith) in
-    let f : hyphens (drop (length s - i) (drop i s)) ≡ 0 = rw (drop-drop (length s - i) i s) e in
-    omega (arith, hyphen_split (length s - i) (drop i s))
+pub ruleset parts = (hyphens_append, hyphens_within)

@@ -12,11 +12,10 @@ use Rattle.scan.specs.Bounds.{refused}
 use Rattle.message.specs.declared.Verdict.{Verdict}
 use Rattle.message.specs.declared.Verdict.TheVariants.{Read, Refused}
 use Rattle.message.specs.declared.Record.{Record}
-use Rattle.types.specs.declared.Scanned.{Scanned}
 use Rattle.types.specs.Messages.{message}
 use Rattle.types.specs.Sound.{message_good}
 use Rattle.message.specs.Record.{blank}
-use Rattle.types.specs.Scanned.{found_by, scanned_by, found_all}
+use Rattle.types.specs.Scanned.{Scanned, found_by, scanned_by, found_all}
 use Rattle.reader.specs.Reading.{hyphens, Judged, answer_of, Answers}
 
 -- A scan that is whole and reaches the end

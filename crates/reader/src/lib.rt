@@ -1,9 +1,9 @@
 // The reader: a text is read or refused with a place, and its words are lent as part of it.
 #![tactic(auto)]
 
-ghost use Rattle.std.specs.Prelude.{◌≡◌, ◌+◌, ◌-◌, ◌≤◌, ◌<◌, length};
+ghost use Rattle.std.specs.Prelude.{◌≡◌, ◌+◌, ◌≤◌, ◌<◌, length};
 ghost use Rattle.scan.specs.Grammar.{place_of, size_of};
-ghost use Rattle.message.specs.Record.{blank as blank_of, is_chg};
+ghost use Rattle.message.specs.Record.{blank as blank_of};
 ghost use Rattle.reader.specs.Reading.{hyphens as hyphens_of, Judged, cut, Words, route as route_of, other as other_of};
 ghost use Rattle.reader.specs.Reader.{verdict as verdict_of};
 
@@ -11,32 +11,30 @@ use message::{Figures, Kind, Level, LevelKind, Outcome, PlanFigures, PointForm, 
 use scan::Span;
 
 // How many hyphens s has, which is short. The count is as wide as a byte, so that sixteen bytes are counted at once.
+#[tactic(auto, using(crate::specs::Hyphens::steps))]
 fn few_hyphens(s: &[u8]) -> u8
     requires { length s.now < 256 }
     ensures { result ≡ hyphens_of s.now }
 {
     let mut n: u8 = 0;
-    let mut i = 0;
-    while i < s.len() {
-        if s[i] == b'-' {
+    for &b in s {
+        if b == b'-' {
             n += 1;
         }
-        i += 1;
     }
     n
 }
 
 // How many hyphens s has.
+#[tactic(auto, using(crate::specs::Hyphens::parts))]
 fn hyphens(s: &[u8]) -> usize
     ensures { result ≡ hyphens_of s.now }
 {
-    let mut n: usize = 0;
-    let mut i = 0;
-    while 224 < s.len() - i {
-        n += scan::wide(few_hyphens(&s[i..i + 224]));
-        i += 224;
+    let mut n = 0;
+    for block in s.chunks(224) {
+        n += scan::wide(few_hyphens(block));
     }
-    n + scan::wide(few_hyphens(&s[i..]))
+    n
 }
 
 // The record of no message.
@@ -92,50 +90,26 @@ pub fn read(s: &[u8]) -> Outcome
     }
 }
 
-fn is_chg(k: Kind) -> bool
-    ensures { result ≡ is_chg k }
-{
-    match k {
-        Kind::None => false,
-        Kind::Fpl => false,
-        Kind::Cpl => false,
-        Kind::Est => false,
-        Kind::Chg => true,
-        Kind::Cnl => false,
-        Kind::Rti => false,
-        Kind::Rta => false,
-        Kind::Rla => false,
-        Kind::Lam => false,
-        Kind::Lrm => false,
-    }
-}
-
 // Where the words of field 15 stand; in a CHG, within field 22.
+#[tactic(auto, unfolding(message::specs::Record::is_chg))]
 pub fn route_in(r: Record) -> Span
     ensures { result ≡ route_of r }
 {
-    let p = r.parts;
-    let k = r.kind;
-    if is_chg(k) {
-        let c = p.changes;
-        return c.route;
+    if r.kind == Kind::Chg {
+        return r.parts.changes.route;
     }
-    let o = p.own;
-    o.route
+    r.parts.own.route
 }
 
 // Where the words of field 18 stand; in a CHG, within field 22.
+#[tactic(auto, unfolding(message::specs::Record::is_chg))]
 pub fn other_in(r: Record) -> Span
     ensures { result ≡ other_of r }
 {
-    let p = r.parts;
-    let k = r.kind;
-    if is_chg(k) {
-        let c = p.changes;
-        return c.other;
+    if r.kind == Kind::Chg {
+        return r.parts.changes.other;
     }
-    let o = p.own;
-    o.other
+    r.parts.own.other
 }
 
 // The bytes of a part.
@@ -143,10 +117,8 @@ pub fn part_of(s: &[u8], p: Span) -> &[u8]
     requires { place_of p + size_of p ≤ length s.now }
     ensures { result.now ≡ cut s.now p }
 {
-    let at = (p / 65536) as usize;
-    let len = (p % 65536) as usize;
-    let end = at + len;
-    &s[at..end]
+    let at = scan::place(p);
+    &s[at..at + scan::size(p)]
 }
 
 // The words of field 15, as the very part of the text; an empty part where there are none or the text is refused.

@@ -17,97 +17,83 @@ enum Next {
     Failed(io::Error),
 }
 
-#[derive(Clone, Copy)]
-struct Turn {
+// A listing that is under way, with room for the line that is not ended yet and for a part of the report.
+#[derive(Drop)]
+struct Listing {
     tally: Tally,
-    next: Next,
+    line: [u8; KEPT],
+    out: [u8; BUFFER],
 }
 
-// Lists a piece of the input, in as many steps as out needs. The error is that of a write that failed.
-fn list_piece(
-    rt: &impl Print,
-    tally: Tally,
-    line: &mut [u8; KEPT],
-    piece: &[u8],
-    out: &mut [u8],
-) -> io::Result<Turn> {
-    let mut tally = tally;
-    let mut at = 0;
-    while at < piece.len() {
-        let step = list::feed(tally, line, &piece[at..], out);
-        let taken = step.taken;
-        let written = step.written;
-        tally = step.tally;
-        rt.write_all(&out[..written])?;
-        if taken == 0 {
-            let next = Next::Failed(io::Error::other("more lines than are counted"));
-            return Ok(Turn { tally, next });
+impl Listing {
+    // Lists a piece of the input, in as many steps as out needs. The error is that of a write that failed.
+    fn list_piece(&mut self, rt: &impl Print, piece: &[u8]) -> io::Result<Next> {
+        let mut rest = piece;
+        while !rest.is_empty() {
+            let step = list::feed(self.tally, &mut self.line, rest, &mut self.out);
+            self.tally = step.tally;
+            rt.write_all(&self.out[..step.written])?;
+            if step.taken == 0 {
+                let e = io::Error::other("more lines than are counted");
+                return Ok(Next::Failed(e));
+            }
+            rest = &rest[step.taken..];
         }
-        at += taken;
+        Ok(Next::More)
     }
-    let next = Next::More;
-    Ok(Turn { tally, next })
-}
 
-// Reads once, and lists what came.
-fn read_piece(
-    rt: &impl Print,
-    input: &mut impl Read,
-    tally: Tally,
-    line: &mut [u8; KEPT],
-    piece: &mut [u8],
-    out: &mut [u8],
-) -> io::Result<Turn> {
-    match input.read(piece) {
-        Err(e) => {
-            let next = Next::Failed(e);
-            Ok(Turn { tally, next })
+    // Reads once, and lists what came.
+    fn read_piece(
+        &mut self,
+        rt: &impl Print,
+        input: &mut impl Read,
+        piece: &mut [u8],
+    ) -> io::Result<Next> {
+        match input.read(piece) {
+            Err(e) => Ok(Next::Failed(e)),
+            Ok(0) => Ok(Next::Ended),
+            Ok(n) => self.list_piece(rt, &piece[..n]),
         }
-        Ok(0) => {
-            let next = Next::Ended;
-            Ok(Turn { tally, next })
-        }
-        Ok(n) => list_piece(rt, tally, line, &piece[..n], out),
     }
-}
 
-// A proved loop has to end, and nothing says that the input does. So the turns are counted, up to a number that no run
-// uses up; if one did, the input would count as broken off.
-fn read_all(
-    rt: &impl Print,
-    input: &mut impl Read,
-    line: &mut [u8; KEPT],
-    piece: &mut [u8],
-    out: &mut [u8],
-) -> io::Result<Turn> {
-    let mut tally = list::start();
-    for _ in 0..u64::MAX {
-        let turn = read_piece(rt, input, tally, line, piece, out)?;
-        tally = turn.tally;
-        let Next::More = turn.next else {
-            return Ok(turn);
-        };
+    // A proved loop has to end, and nothing says that the input does. So the turns are counted, up to a number that no
+    // run uses up; if one did, the input would count as broken off.
+    fn read_all(&mut self, rt: &impl Print, input: &mut impl Read) -> io::Result<Next> {
+        let mut piece = [0u8; BUFFER];
+        for _ in 0..u64::MAX {
+            let next = self.read_piece(rt, input, &mut piece)?;
+            let Next::More = next else {
+                return Ok(next);
+            };
+        }
+        Ok(Next::Failed(io::Error::other("more pieces than are counted")))
     }
-    let next = Next::Failed(io::Error::other("more pieces than are counted"));
-    Ok(Turn { tally, next })
+
+    // The end of the report, of an input that was read to its end.
+    fn finish(&mut self, rt: &impl Print) -> io::Result<()> {
+        let n = list::finish(self.tally, &mut self.line, &mut self.out);
+        rt.write_all(&self.out[..n])
+    }
+
+    // The end of the report, of an input that broke off.
+    fn broke(&mut self, rt: &impl Print) -> io::Result<()> {
+        let n = list::broke(self.tally, &mut self.out);
+        rt.write_all(&self.out[..n])
+    }
 }
 
 // Reads standard input to its end and writes its listing to standard output.
 fn main(rt: HostRuntime) -> io::Result<()> {
-    let mut line = [0u8; KEPT];
-    let mut piece = [0u8; BUFFER];
-    let mut out = [0u8; BUFFER];
-    let turn = read_all(&rt, &mut rt.stdin(), &mut line, &mut piece, &mut out)?;
-    let tally = turn.tally;
-    match turn.next {
+    let mut listing = Listing {
+        tally: list::start(),
+        line: [0; KEPT],
+        out: [0; BUFFER],
+    };
+    match listing.read_all(&rt, &mut rt.stdin())? {
         Next::Failed(e) => {
-            let n = list::broke(tally, &mut out);
-            rt.write_all(&out[..n])?;
+            listing.broke(&rt)?;
             Err(e)
         }
-        _ => {
-            let n = list::finish(tally, &mut line, &mut out);
-            rt.write_all(&out[..n])
-        }
+        _ => listing.finish(&rt),
     }
 }

@@ -7,7 +7,7 @@ use borrow.Author.Tests.{eq-eqb, ne_eqb}
 use Rattle.scan.specs.Bools.{known}
 use Rattle.scan.specs.Grammar.{size_of, Span}
 use Rattle.fields.specs.Names.{sender, receiver, number, sector}
-use Rattle.types.specs.declared.Number.{Number}
+use Rattle.fields.specs.declared.Number.{Number}
 use Rattle.message.specs.declared.Kind.TheVariants.{Rla, Lam, Lrm}
 use Rattle.message.specs.declared.Record.{Record}
 use Rattle.message.specs.declared.Verdict.TheVariants.{Read}

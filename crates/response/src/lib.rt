@@ -4,7 +4,7 @@
 ghost use Rattle.std.specs.Prelude.{◌≤◌, ◌<◌, length};
 ghost use Rattle.reader.specs.Reading.{Judged};
 ghost use Rattle.message.specs.declared.Verdict.TheVariants.{Read};
-ghost use Rattle.pen.specs.Laying.{Adds, start};
+ghost use Rattle.pen.specs.Laying.{Adds, Lays, end_of, start};
 ghost use Rattle.excerpt.specs.Excerpt.{Starts};
 ghost use Rattle.deeds.specs.Message.{message_of};
 ghost use Rattle.response.specs.Answering.{answer_text};
@@ -16,39 +16,45 @@ use scan::Span;
 use types::Number;
 
 // The answer's own number, and as its reference the number that it answers.
-fn add_numbers(text: &mut [u8], p: Pen, w: &[u8], n: Number) -> Pen
-    ensures { Adds w.now text.old p (number_blocks w.now n) (number_spans n) text.new result }
+fn add_numbers(pen: &mut Pen, n: Number)
+    ensures { Lays pen.old (λ d. number_blocks d n) (number_spans n) pen.new }
 {
-    let p1 = pen::add_number(text, p, w, n.receiver, n.sender, n.digits);
-    pen::add_number(text, p1, w, n.sender, n.receiver, n.digits)
+    pen.add_number(n.receiver, n.sender, n.digits);
+    pen.add_number(n.sender, n.receiver, n.digits);
 }
 
-fn lay_lam(text: &mut [u8], w: &[u8], n: Number) -> Pen
-    ensures { Adds w.now text.old start (lam_blocks w.now n) (number_spans n) text.new result }
+fn lay_lam(text: &mut [u8], w: &[u8], n: Number) -> Option<usize>
+    ensures { Adds w.now text.old start (lam_blocks w.now n) (number_spans n) text.new (end_of result) }
 {
-    let p = compose::open_text(text, Kind::Lam);
-    let p1 = add_numbers(text, p, w, n);
-    pen::add(text, p1, b")")
+    let mut pen = Pen::start(text, w);
+    compose::open_text(&mut pen, Kind::Lam);
+    add_numbers(&mut pen, n);
+    pen.add(b")");
+    pen.end
 }
 
-fn lay_rla(text: &mut [u8], w: &[u8], n: Number, sector: Span) -> Pen
-    ensures { Adds w.now text.old start (rla_blocks w.now n sector) (rla_spans n sector) text.new result }
+fn lay_rla(text: &mut [u8], w: &[u8], n: Number, sector: Span) -> Option<usize>
+    ensures { Adds w.now text.old start (rla_blocks w.now n sector) (rla_spans n sector) text.new (end_of result) }
 {
-    let p = compose::open_text(text, Kind::Rla);
-    let p1 = add_numbers(text, p, w, n);
-    let p2 = pen::add_led(text, p1, w, b"-", sector);
-    pen::add(text, p2, b")")
+    let mut pen = Pen::start(text, w);
+    compose::open_text(&mut pen, Kind::Rla);
+    add_numbers(&mut pen, n);
+    pen.add_led(b"-", sector);
+    pen.add(b")");
+    pen.end
 }
 
-fn lay_lrm(text: &mut [u8], w: &[u8], n: Number, v: u8) -> Pen
-    ensures { Adds w.now text.old start (lrm_blocks w.now n v) (number_spans n) text.new result }
+fn lay_lrm(text: &mut [u8], w: &[u8], n: Number, v: u8) -> Option<usize>
+    ensures { Adds w.now text.old start (lrm_blocks w.now n v) (number_spans n) text.new (end_of result) }
 {
     let reason = [b'0' + v / 10, b'0' + v % 10];
-    let p = compose::open_text(text, Kind::Lrm);
-    let p1 = add_numbers(text, p, w, n);
-    let p2 = pen::add(text, p1, b"-RMK/");
-    let p3 = pen::add(text, p2, &reason);
-    pen::add(text, p3, b")")
+    let mut pen = Pen::start(text, w);
+    compose::open_text(&mut pen, Kind::Lrm);
+    add_numbers(&mut pen, n);
+    pen.add(b"-RMK/");
+    pen.add(&reason);
+    pen.add(b")");
+    pen.end
 }
 
 // Lays the text of an answer at the start of a buffer, and answers its length.
@@ -57,13 +63,10 @@ pub fn lay_answer(text: &mut [u8], w: &[u8], r: Record, v: u8) -> usize
     ensures { Starts (answer_text (message_of w.now r) v) text.old text.new result }
 {
     if v == 1 {
-        let p = lay_lam(text, w, r.parts.number);
-        return p.at;
+        return lay_lam(text, w, r.parts.number).unwrap_or(0);
     }
     if v == 2 {
-        let p = lay_rla(text, w, r.parts.number, r.parts.sector);
-        return p.at;
+        return lay_rla(text, w, r.parts.number, r.parts.sector).unwrap_or(0);
     }
-    let p = lay_lrm(text, w, r.parts.number, v);
-    p.at
+    lay_lrm(text, w, r.parts.number, v).unwrap_or(0)
 }

@@ -7,8 +7,7 @@ use Rattle.std.proofs.lemmas.Bool.{false≢true}
 use Rattle.std.proofs.Math.Option.{Option, none, some}
 use Rattle.scan.specs.Bools.{and_l, and_r}
 use Rattle.message.specs.declared.Kind.TheVariants.{Rla}
-use Rattle.places.specs.declared.Place.{Place}
-use Rattle.places.specs.declared.Place.TheVariants.{At, Nowhere}
+use Rattle.places.specs.Place.{Place, At, Nowhere}
 use Rattle.places.specs.Places.{Places, get, get_set, found_below, found_has, first_set}
 use Rattle.flights.specs.Flight.{Flight, offered}
 use Rattle.flights.specs.Decoded.{keyed}

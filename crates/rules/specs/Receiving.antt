@@ -10,8 +10,7 @@ use Rattle.head.specs.declared.Head.{Head}
 use Rattle.head.specs.declared.Standing.{Standing}
 use Rattle.head.specs.declared.Standing.TheVariants.{New, Old, Stale}
 use Rattle.head.specs.Head as h
-use Rattle.places.specs.declared.Place.{Place}
-use Rattle.places.specs.declared.Place.TheVariants.{At, Nowhere}
+use Rattle.places.specs.Place.{Place, At, Nowhere}
 use Rattle.places.specs.Bytes.{same}
 use Rattle.places.specs.Places.{Places, get, set, first_of}
 use Rattle.flights.specs.Flight.{Flight}

@@ -8,8 +8,7 @@ use Rattle.reader.specs.Reader.{verdict}
 use Rattle.head.specs.declared.Standing.{Standing}
 use Rattle.head.specs.declared.Standing.TheVariants.{New, Old, Stale}
 use Rattle.head.specs.Head as h
-use Rattle.places.specs.declared.Place.{Place}
-use Rattle.places.specs.declared.Place.TheVariants.{At, Nowhere}
+use Rattle.places.specs.Place.{Place, At, Nowhere}
 use Rattle.places.specs.Places.{get}
 use Rattle.unanswered.specs.Waiting.{Waiting, is_answer}
 use Rattle.deeds.specs.Message.{Message}

@@ -28,93 +28,50 @@ struct KeyParts {
     destination: Span,
 }
 
+#[tactic(auto, unfolding(crate::specs::Answers::is_offering))]
 pub fn is_offering(d: Deed) -> bool
     ensures { result ≡ is_offering d }
 {
-    match d {
-        Deed::Files => false,
-        Deed::Enters => false,
-        Deed::Amends => false,
-        Deed::Estimates => false,
-        Deed::Cancels => false,
-        Deed::Offers => true,
-        Deed::Retracts => false,
-        Deed::Accepts => false,
-        Deed::Nothing => false,
-    }
+    d == Deed::Offers
 }
 
+#[tactic(auto, unfolding(crate::specs::Answers::is_acceptance))]
 pub fn is_acceptance(d: Deed) -> bool
     ensures { result ≡ is_acceptance d }
 {
-    match d {
-        Deed::Files => false,
-        Deed::Enters => false,
-        Deed::Amends => false,
-        Deed::Estimates => false,
-        Deed::Cancels => false,
-        Deed::Offers => false,
-        Deed::Retracts => false,
-        Deed::Accepts => true,
-        Deed::Nothing => false,
-    }
+    d == Deed::Accepts
 }
 
 // Whether a message may get an answer of this type.
+#[tactic(auto, unfolding(crate::specs::Answers::proper))]
 pub fn proper(k: Kind, d: Deed) -> bool
     ensures { result ≡ proper_of k d }
 {
     match k {
-        Kind::None => false,
-        Kind::Fpl => false,
-        Kind::Cpl => false,
-        Kind::Est => false,
-        Kind::Chg => false,
-        Kind::Cnl => false,
-        Kind::Rti => false,
-        Kind::Rta => false,
         Kind::Rla => is_offering(d),
         Kind::Lam => !is_offering(d),
         Kind::Lrm => !is_acceptance(d),
+        _ => false,
     }
 }
 
 // Whether an answer says that the message was applied.
+#[tactic(auto, unfolding(crate::specs::Answers::is_good))]
 pub fn is_good(k: Kind) -> bool
     ensures { result ≡ is_good k }
 {
-    match k {
-        Kind::None => false,
-        Kind::Fpl => false,
-        Kind::Cpl => false,
-        Kind::Est => false,
-        Kind::Chg => false,
-        Kind::Cnl => false,
-        Kind::Rti => false,
-        Kind::Rta => false,
-        Kind::Rla => true,
-        Kind::Lam => true,
-        Kind::Lrm => false,
-    }
+    matches!(k, Kind::Rla | Kind::Lam)
 }
 
+#[tactic(auto, unfolding(crate::specs::Answers::good_answer, crate::specs::Answers::is_offering))]
 fn good_answer(d: Deed) -> u8
     ensures { result ≡ good_answer d }
 {
-    match d {
-        Deed::Files => 1,
-        Deed::Enters => 1,
-        Deed::Amends => 1,
-        Deed::Estimates => 1,
-        Deed::Cancels => 1,
-        Deed::Offers => 2,
-        Deed::Retracts => 1,
-        Deed::Accepts => 1,
-        Deed::Nothing => 1,
-    }
+    if is_offering(d) { 2 } else { 1 }
 }
 
-// What is answered.
+// What is answered: the byte that the answers' memory holds, by document 01's values. No enum stands for it: lay_answer takes any
+// value below 100, which an enum would narrow.
 pub fn answer_to(d: Deed, c: Decision) -> u8
     ensures { result ≡ answer_to d c }
 {
@@ -130,9 +87,8 @@ fn has_units(w: &[u8], p: Number, a: [u8; 4], b: [u8; 4]) -> bool
     requires { Inside w.now p.sender × Inside w.now p.receiver }
     ensures { result ≡ units (cut w.now p.sender) (cut w.now p.receiver) a b }
 {
-    let x = places::same(excerpt::text_in(w, p.sender), &a);
-    let y = places::same(excerpt::text_in(w, p.receiver), &b);
-    x & y
+    places::same(excerpt::text_in(w, p.sender), &a)
+        & places::same(excerpt::text_in(w, p.receiver), &b)
 }
 
 fn answer_refers(w: &[u8], r: Record, h: Head) -> bool
@@ -178,13 +134,11 @@ pub fn directed(w: &[u8], r: Record, h: Head) -> bool
 }
 
 // A part of a field 22 where it is given, else the message's own.
+#[tactic(auto, unfolding(crate::specs::Keys::or_part))]
 fn or_part(c: Span, own: Span) -> Span
     ensures { result ≡ or_part c own }
 {
-    if c % 65536 == 0 {
-        return own;
-    }
-    c
+    if scan::is_absent(c) { own } else { c }
 }
 
 // Where the old key of a message stands.
@@ -215,23 +169,14 @@ fn changed_parts(r: Record) -> KeyParts
 }
 
 // Where the new key stands: only a CHG gives another.
+#[tactic(auto, unfolding(crate::specs::Keys::new_parts, message::specs::Record::is_chg))]
 fn new_parts(r: Record) -> KeyParts
     ensures { result ≡ new_parts r }
 {
-    let k = r.kind;
-    match k {
-        Kind::None => old_parts(r),
-        Kind::Fpl => old_parts(r),
-        Kind::Cpl => old_parts(r),
-        Kind::Est => old_parts(r),
-        Kind::Chg => changed_parts(r),
-        Kind::Cnl => old_parts(r),
-        Kind::Rti => old_parts(r),
-        Kind::Rta => old_parts(r),
-        Kind::Rla => old_parts(r),
-        Kind::Lam => old_parts(r),
-        Kind::Lrm => old_parts(r),
+    if r.kind == Kind::Chg {
+        return changed_parts(r);
     }
+    old_parts(r)
 }
 
 // Whether two keys are one.

@@ -1,8 +1,8 @@
 // Scanners that mirror a grammar: each gives where the longest viable beginning ends, and whether it is whole.
 #![tactic(auto)]
 
-ghost use Rattle.std.specs.Prelude.{◌≡◌, cond, false, ◌≤◌, ◌<◌};
-ghost use Rattle.scan.specs.Grammar.{is_in, all, none as none_of, run as run_g, Derives};
+ghost use Rattle.std.specs.Prelude.{◌≡◌, cond, eqb, false, ◌≤◌, ◌<◌};
+ghost use Rattle.scan.specs.Grammar.{is_in, all, none as none_of, place_of, size_of, run as run_g, Derives};
 ghost use Rattle.scan.specs.declared.Class.TheVariants.{Word};
 ghost use Rattle.scan.specs.Laws.{Whole};
 ghost use Rattle.scan.specs.Scanner.{run_at, scan, longer as longer_of, leads as leads_of, between16};
@@ -371,4 +371,25 @@ pub fn wide(x: u8) -> usize
     ensures { (result ≡ x) × (result < 256) }
 {
     x as usize
+}
+
+// Where a part stands.
+pub fn place(p: Span) -> usize
+    ensures { (result ≡ place_of p) × (result < 65536) }
+{
+    (p / 65536) as usize
+}
+
+// How many bytes a part has.
+pub fn size(p: Span) -> usize
+    ensures { (result ≡ size_of p) × (result < 65536) }
+{
+    (p % 65536) as usize
+}
+
+// Whether a part is absent.
+pub fn is_absent(p: Span) -> bool
+    ensures { result ≡ eqb (size_of p) 0 }
+{
+    p % 65536 == 0
 }

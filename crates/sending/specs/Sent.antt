@@ -11,8 +11,7 @@ use Rattle.reader.specs.Reading.{Judged}
 use Rattle.head.specs.declared.Head.{Head}
 use Rattle.head.specs.declared.Given.{Given}
 use Rattle.head.specs.Head.{given}
-use Rattle.places.specs.declared.Place.{Place}
-use Rattle.places.specs.declared.Place.TheVariants.{At, Nowhere}
+use Rattle.places.specs.Place.{Place, At, Nowhere}
 use Rattle.places.specs.Places.{Places, is_free, set, first_of}
 use Rattle.places.specs.Forms.{bytes_of}
 use Rattle.flights.specs.Flight.{Flight}

@@ -6,7 +6,7 @@ ghost use Rattle.message.specs.declared.Verdict.TheVariants.{Read};
 ghost use Rattle.reader.specs.Reading.{Judged};
 ghost use Rattle.flights.specs.Formed.{TableFormed};
 ghost use Rattle.head.specs.Sound.{HeadFormed};
-ghost use Rattle.places.specs.declared.Place.TheVariants.{At};
+ghost use Rattle.places.specs.Place.{At};
 ghost use Rattle.unanswered.specs.Waiting.{UnansweredFormed};
 ghost use Rattle.deeds.specs.Message.{message_of};
 ghost use Rattle.answers.specs.Given.{AnswersFormed};
@@ -21,7 +21,6 @@ mod handing;
 
 use head::Head;
 use message::Record;
-use places::Place;
 use rules::{Answer, Outcome};
 use unanswered::Shown;
 
@@ -191,8 +190,8 @@ pub fn send_text(
     }
     let p = unanswered::lowest_free(unanswered);
     match p {
-        Place::At(i) => send_at(i, h, w, r, x, sent, received, unanswered, out),
-        Place::Nowhere => Outcome {
+        Some(i) => send_at(i, h, w, r, x, sent, received, unanswered, out),
+        None => Outcome {
             answer: Answer::TooManyUnanswered,
             head: h,
         },

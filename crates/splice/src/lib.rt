@@ -9,12 +9,10 @@ pub fn put(d: &mut [u8], at: usize, src: &[u8]) -> usize
     requires { at + length src.now ≤ length d.old }
     ensures { Spliced at src.now d.old d.new result }
 {
-    let mut i = 0;
-    while i < src.len() {
-        d[at + i] = src[i];
-        i += 1;
+    for (i, b) in src.iter().enumerate() {
+        d[at + i] = *b;
     }
-    at + i
+    at + src.len()
 }
 
 // Writes n times v over d from index at on, and answers the index behind it.
@@ -22,10 +20,7 @@ pub fn fill(d: &mut [u8], at: usize, n: usize, v: u8) -> usize
     requires { at + n ≤ length d.old }
     ensures { Spliced at (replicate n v) d.old d.new result }
 {
-    let mut i = 0;
-    while i < n {
-        d[at + i] = v;
-        i += 1;
-    }
-    at + i
+    let end = at + n;
+    d[at..end].fill(v);
+    end
 }

@@ -15,8 +15,7 @@ use Rattle.scan.specs.Texts.{lit, byte}
 use Rattle.scan.specs.Scanner.{run_at, run_scan, scan, from, scan_at, longer, leads, occurs, span_by, spot}
 use Rattle.scan.specs.Theory.{skip}
 use Rattle.scan.specs.Bounds.{scan_forth, spot_stays}
-use Rattle.types.specs.declared.Scanned.{Scanned}
-use Rattle.types.specs.Scanned.{parts_of, found_by, stopped_at}
+use Rattle.types.specs.Scanned.{Scanned, parts_of, found_by, stopped_at}
 
 -- A given text
 

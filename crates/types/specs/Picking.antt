@@ -1,12 +1,11 @@
 -- The ten messages as arms, picked by the three letters of the type.
-use Rattle.std.specs.Prelude.{◌≡◌, refl, ℕ, ◌+◌, ◌*◌, ◌≤◌, ◌<◌, length, get_or, take, true}
-use Rattle.std.proofs.Common.{sym, ap, ◌∙◌, arith, length-take}
+use Rattle.std.specs.Prelude.{◌≡◌, ◌⊎◌, refl, ℕ, ◌+◌, ◌*◌, ◌≤◌, ◌<◌, length, get_or, take, true}
+use Rattle.std.proofs.Common.{sym, ap, ◌∙◌, inl, inr, arith, length-take}
 use mathlib.Core.List.{List, [], ◌∷◌, head-eq_of_cons-eq}
 use Rattle.scan.specs.Grammar.{G}
 use Rattle.scan.specs.Scanner.{scan_at}
-use Rattle.types.specs.declared.Scanned.{Scanned}
 use Rattle.types.specs.Messages.{fpl, cpl, est, chg, cnl, rti, rta, rla, lam, lrm, message}
-use Rattle.types.specs.Scanned.{scanned_by, stopped_at, told, told_stopped}
+use Rattle.types.specs.Scanned.{Scanned, scanned_by, stopped_at, told, told_stopped}
 use Rattle.types.specs.Arms.{Arm, led_lit, led_seq, alt_of, keys_of, Misses, all_miss, missed, picked, once, arm_of}
 
 unfoldable pub fpl_arm : Arm
@@ -91,17 +90,69 @@ pub record Typed (s : List ℕ) : Type 0 where
 pub typed : (s : List ℕ) → 4 ≤ length s → get_or s 0 0 ≡ 40 → get_or s 1 0 < 256 → get_or s 2 0 < 256 → get_or s 3 0 < 256 → Typed s
 typed s h o a b c = record { long = h; opens = o; one = a; two = b; three = c }
 
--- a text is scanned as the message whose letters it has
-pub picked_by : (a b c : ℕ) → a < 256 → b < 256 → c < 256 → once a b c fpl_arm other_arms ≡ true → (s : List ℕ) (q : Scanned) → Typed s → letters_of s ≡ letters_as a b c → q ≡ scanned_by (arm_of a b c fpl_arm other_arms) s → q ≡ scanned_by message s
+-- a text that begins with "(" and three letters is scanned by g
+abbrev pub Picks : ℕ → ℕ → ℕ → G → Type 0
+Picks a b c g = (s : List ℕ) (q : Scanned) → 4 ≤ length s → get_or s 0 0 ≡ 40 → get_or s 1 0 ≡ a → get_or s 2 0 ≡ b → get_or s 3 0 ≡ c → q ≡ scanned_by g s → q ≡ scanned_by message s
+
+-- the message whose letters it has scans it
+pub picked_at : (a b c : ℕ) → once a b c fpl_arm other_arms ≡ true → Picks a b c (arm_of a b c fpl_arm other_arms)
 unfolding scanned_by
+picked_at a b c o s q h p x y z e = e ∙ ap told (picked a b c s (take4 s h ∙ rw (p, x, y, z)) fpl_arm other_arms o) ∙ ap {B = Scanned} (λ (g : G). scanned_by g s) message_arms
+
+-- the same, its letters given as one number
+pub picked_by : (a b c : ℕ) → a < 256 → b < 256 → c < 256 → once a b c fpl_arm other_arms ≡ true → (s : List ℕ) (q : Scanned) → Typed s → letters_of s ≡ letters_as a b c → q ≡ scanned_by (arm_of a b c fpl_arm other_arms) s → q ≡ scanned_by message s
 picked_by a b c k l m o s q t w e =
     let h = t.one in
     let i = t.two in
     let j = t.three in
-    let x : get_or s 1 0 ≡ a = omega arith in
-    let y : get_or s 2 0 ≡ b = omega arith in
-    let z : get_or s 3 0 ≡ c = omega arith in
-    e ∙ ap told (picked a b c s (take4 s t.long ∙ rw (t.opens, x, y, z)) fpl_arm other_arms o) ∙ ap {B = Scanned} (λ (g : G). scanned_by g s) message_arms
+    picked_at a b c o s q t.long t.opens (omega arith) (omega arith) (omega arith) e
+
+-- `unfolding arms` opens the arm of each message
+unfoldable pub arms : Unit {0}
+unfolding fpl_arm cpl_arm est_arm chg_arm cnl_arm rti_arm rta_arm rla_arm lam_arm lrm_arm other_arms
+arms = tt
+
+pub picks_fpl : Picks 70 80 76 fpl
+unfolding arms
+picks_fpl = picked_at 70 80 76 refl
+
+pub picks_cpl : Picks 67 80 76 cpl
+unfolding arms
+picks_cpl = picked_at 67 80 76 refl
+
+pub picks_est : Picks 69 83 84 est
+unfolding arms
+picks_est = picked_at 69 83 84 refl
+
+pub picks_chg : Picks 67 72 71 chg
+unfolding arms
+picks_chg = picked_at 67 72 71 refl
+
+pub picks_cnl : Picks 67 78 76 cnl
+unfolding arms
+picks_cnl = picked_at 67 78 76 refl
+
+pub picks_rti : Picks 82 84 73 rti
+unfolding arms
+picks_rti = picked_at 82 84 73 refl
+
+pub picks_rta : Picks 82 84 65 rta
+unfolding arms
+picks_rta = picked_at 82 84 65 refl
+
+pub picks_rla : Picks 82 76 65 rla
+unfolding arms
+picks_rla = picked_at 82 76 65 refl
+
+pub picks_lam : Picks 76 65 77 lam
+unfolding arms
+picks_lam = picked_at 76 65 77 refl
+
+pub picks_lrm : Picks 76 82 77 lrm
+unfolding arms
+picks_lrm = picked_at 76 82 77 refl
+
+pub ruleset picks = (picks_fpl, picks_cpl, picks_est, picks_chg, picks_cnl, picks_rti, picks_rta, picks_rla, picks_lam, picks_lrm)
 
 -- no type begins so
 abbrev pub unknown_of : List ℕ → Scanned
@@ -121,3 +172,35 @@ pub strange_misses : (s : List ℕ) → 4 ≤ length s → (letters_of s ≡ 460
 unfolding fpl_arm cpl_arm est_arm chg_arm cnl_arm rti_arm rta_arm rla_arm lam_arm lrm_arm other_arms
 strange_misses s h n0 n1 n2 n3 n4 n5 n6 n7 n8 n9 =
     ((λ e. n0 (key_letters s 70 80 76 h e)), ((λ e. n1 (key_letters s 67 80 76 h e)), ((λ e. n2 (key_letters s 69 83 84 h e)), ((λ e. n3 (key_letters s 67 72 71 h e)), ((λ e. n4 (key_letters s 67 78 76 h e)), ((λ e. n5 (key_letters s 82 84 73 h e)), ((λ e. n6 (key_letters s 82 84 65 h e)), ((λ e. n7 (key_letters s 82 76 65 h e)), ((λ e. n8 (key_letters s 76 65 77 h e)), (λ e. n9 (key_letters s 76 82 77 h e)))))))))))
+
+-- the letters of a type
+abbrev pub Known : ℕ → ℕ → ℕ → Type 0
+Known a b c =
+    ((a ≡ 70) × (b ≡ 80) × (c ≡ 76))
+    ⊎ ((a ≡ 67) × (b ≡ 80) × (c ≡ 76))
+    ⊎ ((a ≡ 69) × (b ≡ 83) × (c ≡ 84))
+    ⊎ ((a ≡ 67) × (b ≡ 72) × (c ≡ 71))
+    ⊎ ((a ≡ 67) × (b ≡ 78) × (c ≡ 76))
+    ⊎ ((a ≡ 82) × (b ≡ 84) × (c ≡ 73))
+    ⊎ ((a ≡ 82) × (b ≡ 84) × (c ≡ 65))
+    ⊎ ((a ≡ 82) × (b ≡ 76) × (c ≡ 65))
+    ⊎ ((a ≡ 76) × (b ≡ 65) × (c ≡ 77))
+    ⊎ ((a ≡ 76) × (b ≡ 82) × (c ≡ 77))
+
+-- a text that begins with none of them is scanned as no type's
+pub strange : (s : List ℕ) (q : Scanned) → (4 ≤ length s → get_or s 0 0 ≡ 40 → Known (get_or s 1 0) (get_or s 2 0) (get_or s 3 0) → ⊥) → q ≡ unknown_of s → q ≡ scanned_by message s
+unfolding arms
+strange s q n e = unknown_missed s q misses e
+  where
+    not : (a b c : ℕ) → Known a b c → 40 ∷ a ∷ b ∷ c ∷ [] ≡ take 4 s → ⊥
+    not a b c k m =
+        let h : 4 ≤ length s = omega (arith, ap length m, length-take 4 s) in
+        let t : 40 ∷ a ∷ b ∷ c ∷ [] ≡ get_or s 0 0 ∷ get_or s 1 0 ∷ get_or s 2 0 ∷ get_or s 3 0 ∷ [] = m ∙ take4 s h in
+        let p : get_or s 0 0 ≡ 40 = cc in
+        let x : get_or s 1 0 ≡ a = cc in
+        let y : get_or s 2 0 ≡ b = cc in
+        let z : get_or s 3 0 ≡ c = cc in
+        n h p (rw (x, y, z) k)
+
+    misses : Misses (take 4 s) fpl_arm other_arms
+    misses = (not 70 80 76 (inl (refl, refl, refl)), (not 67 80 76 (inr (inl (refl, refl, refl))), (not 69 83 84 (inr (inr (inl (refl, refl, refl)))), (not 67 72 71 (inr (inr (inr (inl (refl, refl, refl))))), (not 67 78 76 (inr (inr (inr (inr (inl (refl, refl, refl)))))), (not 82 84 73 (inr (inr (inr (inr (inr (inl (refl, refl, refl))))))), (not 82 84 65 (inr (inr (inr (inr (inr (inr (inl (refl, refl, refl)))))))), (not 82 76 65 (inr (inr (inr (inr (inr (inr (inr (inl (refl, refl, refl))))))))), (not 76 65 77 (inr (inr (inr (inr (inr (inr (inr (inr (inl (refl, refl, refl)))))))))), not 76 82 77 (inr (inr (inr (inr (inr (inr (inr (inr (inr (refl, refl, refl)))))))))))))))))))

@@ -6,23 +6,16 @@ use Rattle.std.proofs.Math.Bool.{true, false}
 use Rattle.std.proofs.lemmas.Bool.{not-true, not-false}
 use Rattle.scan.specs.declared.Scan.{Scan}
 use Rattle.scan.specs.Grammar.{Span, G, none}
-use Rattle.scan.specs.Scanner.{scan, from, scan_at, spot}
-use Rattle.scan.specs.Picks.{Begins, begins_stays}
+use Rattle.scan.specs.Scanner.{scan, from, scan_at, among, occurs, span_by, spot}
+use Rattle.scan.specs.Picks.{Begins, it, begins_stays}
 use Rattle.fields.specs.Names as n
 use Rattle.fields.specs.Fields.{◌─◌, g07, g08, g09, g10}
-use Rattle.fields.specs.declared.Found13.{Found13}
-use Rattle.fields.specs.declared.Found14.{Found14}
-use Rattle.fields.specs.declared.Found15.{Found15}
-use Rattle.fields.specs.declared.Found16.{Found16}
-use Rattle.fields.specs.declared.Found18.{Found18}
+use Rattle.fields.specs.declared.Found.{Found}
 use Rattle.changes.specs.declared.Plan.{Plan}
-use Rattle.changes.specs.Found.{plan_of, amended_plan}
-use Rattle.types.specs.declared.Number.{Number}
-use Rattle.types.specs.declared.Estimate.{Estimate}
+use Rattle.changes.specs.Found.{plan_of, amended_plan, found_tail}
+use Rattle.types.specs.Messages.{fpl, cpl, est, chg, cnl, rti, rta, rla, lam, lrm}
 use Rattle.types.specs.declared.Parts.{Parts}
 use Rattle.types.specs.declared.Heading.{Heading}
-use Rattle.types.specs.declared.Leading.{Leading}
-use Rattle.types.specs.declared.Scanned.{Scanned}
 
 -- where every part stands, f saying where the part of a name does
 abbrev pub parts_of : (ℕ → Span) → Parts
@@ -37,22 +30,35 @@ parts_of f = record {
   reason = f n.reason;
 }
 
-abbrev pub no_number : Number
-no_number = record { sender = none; receiver = none; digits = none }
+-- where a text ends, and the parts of its message
+abbrev pub Scanned : Type 0
+Scanned = Found Parts
 
-abbrev pub no_estimate : Estimate
-no_estimate = record { point = none; over = none; crossing = none; second = none; sense = none }
-
-unfoldable pub opened_by : G → List ℕ → Heading
+unfoldable pub opened_by : G → List ℕ → Found Heading
 opened_by g s = record {
   end = scan_at g s 0;
-  number = record { sender = spot n.sender g s (from 0); receiver = spot n.receiver g s (from 0); digits = spot n.number g s (from 0) };
-  reference = record { sender = spot n.reference_sender g s (from 0); receiver = spot n.reference_receiver g s (from 0); digits = spot n.reference_number g s (from 0) };
+  parts = record {
+    number = record { sender = spot n.sender g s (from 0); receiver = spot n.receiver g s (from 0); digits = spot n.number g s (from 0) };
+    reference = record { sender = spot n.reference_sender g s (from 0); receiver = spot n.reference_receiver g s (from 0); digits = spot n.reference_number g s (from 0) };
+  };
+}
+
+-- the parts of a message, as far as its heading has them
+abbrev pub headed_by : Heading → Parts
+headed_by h = record {
+  number = h.number;
+  reference = h.reference;
+  own = plan_of (λ _. none);
+  estimate = record { point = none; over = none; crossing = none; second = none; sense = none };
+  changes = amended_plan (λ _. none);
+  sector = none;
+  track = none;
+  reason = none;
 }
 
 -- fields 07 to 10
-unfoldable pub front_of : List ℕ → Scan → Leading
-front_of s r = record { end = scan (g07 0 ─ g08 0 ─ g09 0 ─ g10 0) s r; plan = plan_of (λ k. spot k (g07 0 ─ g08 0 ─ g09 0 ─ g10 0) s r) }
+unfoldable pub front_of : List ℕ → Scan → Found Plan
+front_of s r = record { end = scan (g07 0 ─ g08 0 ─ g09 0 ─ g10 0) s r; parts = plan_of (λ k. spot k (g07 0 ─ g08 0 ─ g09 0 ─ g10 0) s r) }
 
 unfoldable pub found_by : G → List ℕ → Scanned
 found_by g s = record { end = scan_at g s 0; parts = parts_of (λ k. spot k g s (from 0)) }
@@ -103,85 +109,14 @@ told_stopped e = go e.ok
     go true = refl
     go false = refl
 
--- WHAT THE PARTS OF A MESSAGE ARE PUT TOGETHER FROM
+-- the same at the end of a message
+pub stops_last : (g : G) (s : List ℕ) (e : Scan) {q : Scanned} → e ≡ scan_at g s 0 → not e.ok ≡ true → q ≡ stopped_at e → q ≡ scanned_by g s
+stops_last g s e p n w = stops it s e p n w
 
-abbrev pub estimate_of : Found14 → Estimate
-estimate_of x = record { point = x.point; over = x.over; crossing = x.crossing; second = x.second; sense = x.sense }
+-- how a message ends
+pub ruleset endings = (tells, stops_last)
 
-abbrev pub named_by : Span → Span → Span → Span → Span → Span → Span → Plan
-named_by aircraft code departure time destination indicator other = record {
-  aircraft = aircraft;
-  code = code;
-  rules = none;
-  flight = none;
-  count = none;
-  model = none;
-  wake = none;
-  equipment = none;
-  surveillance = none;
-  departure = departure;
-  time = time;
-  speed = none;
-  level = none;
-  route = none;
-  destination = destination;
-  elapsed = none;
-  alternate = none;
-  alternate2 = none;
-  indicator = indicator;
-  other = other;
-}
-
-abbrev pub filed_by : Leading → Found13 → Found15 → Found16 → Found18 → Plan
-filed_by f d r a o = record {
-  aircraft = f.plan.aircraft;
-  code = f.plan.code;
-  rules = f.plan.rules;
-  flight = f.plan.flight;
-  count = f.plan.count;
-  model = f.plan.model;
-  wake = f.plan.wake;
-  equipment = f.plan.equipment;
-  surveillance = f.plan.surveillance;
-  departure = d.departure;
-  time = d.time;
-  speed = r.speed;
-  level = r.level;
-  route = r.route;
-  destination = a.destination;
-  elapsed = a.elapsed;
-  alternate = a.alternate;
-  alternate2 = a.alternate2;
-  indicator = o.indicator;
-  other = o.other;
-}
-
-abbrev pub current_by : Leading → Span → Found15 → Span → Found18 → Plan
-current_by f departure r destination o = record {
-  aircraft = f.plan.aircraft;
-  code = f.plan.code;
-  rules = f.plan.rules;
-  flight = f.plan.flight;
-  count = f.plan.count;
-  model = f.plan.model;
-  wake = f.plan.wake;
-  equipment = f.plan.equipment;
-  surveillance = f.plan.surveillance;
-  departure = departure;
-  time = f.plan.time;
-  speed = r.speed;
-  level = r.level;
-  route = r.route;
-  destination = destination;
-  elapsed = f.plan.elapsed;
-  alternate = f.plan.alternate;
-  alternate2 = f.plan.alternate2;
-  indicator = o.indicator;
-  other = o.other;
-}
-
-abbrev pub whole_by : Scan → Heading → Plan → Estimate → Plan → Span → Span → Span → Scanned
-whole_by end h own estimate changes sector track reason = record {
-  end = end;
-  parts = record { number = h.number; reference = h.reference; own = own; estimate = estimate; changes = changes; sector = sector; track = track; reason = reason };
-}
+-- `unfolding scanned_rules` opens where the parts of every message stand, down to its fields
+unfoldable pub scanned_rules : Unit {0}
+unfolding fpl cpl est chg cnl rti rta rla lam lrm opened_by front_of found_by found_tail among occurs span_by
+scanned_rules = tt

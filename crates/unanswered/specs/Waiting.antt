@@ -5,7 +5,7 @@ use Rattle.message.specs.declared.Kind.TheVariants.{None, Fpl, Cpl, Est, Chg, Cn
 use Rattle.message.specs.declared.Verdict.TheVariants.{Read}
 use Rattle.message.specs.declared.Record.{Record}
 use Rattle.reader.specs.Reading.{Judged, cut}
-use Rattle.places.specs.declared.Place.{Place}
+use Rattle.places.specs.Place.{Place}
 use Rattle.places.specs.Below.{Below}
 use Rattle.places.specs.Search.{first_from}
 use Rattle.places.specs.Bytes.{high, low, number_at, free}

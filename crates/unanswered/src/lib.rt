@@ -12,7 +12,6 @@ ghost use Rattle.places.specs.Bytes.{number_at};
 ghost use Rattle.unanswered.specs.Waiting.{waiting, waiting_bytes, free_bytes, waiting_of, is_answer, Proper, place, Apart, FormedAt, Shows, ShowsAt, UnansweredFormed, has_number, found, lowest_free};
 
 use message::{Kind, Record};
-use places::Place;
 use scan::Span;
 
 // What a place shows beside its text: it is not well formed, it is free, or it has the shape of a message.
@@ -24,22 +23,11 @@ pub enum Shown {
 }
 
 // Whether a type answers; no message is none to wait for.
+#[tactic(auto, unfolding(crate::specs::Waiting::is_answer))]
 pub fn is_answer(k: Kind) -> bool
     ensures { result ≡ is_answer k }
 {
-    match k {
-        Kind::None => true,
-        Kind::Fpl => false,
-        Kind::Cpl => false,
-        Kind::Est => false,
-        Kind::Chg => false,
-        Kind::Cnl => false,
-        Kind::Rti => false,
-        Kind::Rta => false,
-        Kind::Rla => true,
-        Kind::Lam => true,
-        Kind::Lrm => true,
-    }
+    matches!(k, Kind::None | Kind::Rla | Kind::Lam | Kind::Lrm)
 }
 
 // Whether a part of a text is a name.
@@ -199,7 +187,7 @@ fn has_number(b: &[u8], n: usize) -> bool
 }
 
 // The lowest place with a number.
-pub fn find(t: &[u8], n: usize) -> Place
+pub fn find(t: &[u8], n: usize) -> Option<usize>
     requires { length t.now ≡ 20480 }
     ensures { result ≡ found n t.now }
 {
@@ -207,26 +195,26 @@ pub fn find(t: &[u8], n: usize) -> Place
     while i < 16 {
         let a = i * 1280;
         if has_number(&t[a..a + 1280], n) {
-            return Place::At(i);
+            return Some(i);
         }
         i += 1;
     }
-    Place::Nowhere
+    None
 }
 
 // The lowest free place.
-pub fn lowest_free(t: &[u8]) -> Place
+pub fn lowest_free(t: &[u8]) -> Option<usize>
     requires { length t.now ≡ 20480 }
     ensures { result ≡ lowest_free t.now }
 {
     let mut i = 0;
     while i < 16 {
         if t[i * 1280] == 0 {
-            return Place::At(i);
+            return Some(i);
         }
         i += 1;
     }
-    Place::Nowhere
+    None
 }
 
 // Makes place i free.

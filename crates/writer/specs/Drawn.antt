@@ -5,9 +5,8 @@ use Rattle.scan.specs.Bools.{Decides, decides_as}
 use Rattle.scan.specs.Grammar.{span, size_of, Span}
 use Rattle.fields.specs.Names as name
 use Rattle.message.specs.declared.Record.{Record}
-use Rattle.pen.specs.declared.Pen.{Pen}
 use Rattle.compose.specs.Composed.{sizes}
-use Rattle.pen.specs.Laying.{Adds, start, opening, blocks, spans, rest_blocks, rest_spans}
+use Rattle.pen.specs.Laying.{End, Adds, start, opening, blocks, spans, rest_blocks, rest_spans}
 use Rattle.writer.specs.Comparing.{Back}
 use Rattle.writer.specs.Written.{breaks_laid, breaks_back, text_back, laid_fits, laid_size}
 use Rattle.writer.specs.declared.Drafting.TheVariants.{Written, BreaksRule}
@@ -58,7 +57,7 @@ module _ (ours partners : List ℕ) (n : ℕ) (f : length ours ≡ 4) (g : lengt
 
 -- THE STEPS: a text was laid out under a number in a buffer of 1077 bytes
 
-module _ (ours partners : List ℕ) (n : ℕ) (d : List ℕ) (r : Record) (t₀ t m : List ℕ) (p : Pen) (z : length t₀ ≡ 1077) (f : length ours ≡ 4) (g : length partners ≡ 4) (e : m ≡ number_bytes ours partners n) (a : Adds d t₀ start (opening r.kind ∷ m ∷ rest_blocks d r.parts) (rest_spans r.parts) t p) where
+module _ (ours partners : List ℕ) (n : ℕ) (d : List ℕ) (r : Record) (t₀ t m : List ℕ) (p : End) (z : length t₀ ≡ 1077) (f : length ours ≡ 4) (g : length partners ≡ 4) (e : m ≡ number_bytes ours partners n) (a : Adds d t₀ start (opening r.kind ∷ m ∷ rest_blocks d r.parts) (rest_spans r.parts) t p) where
   abbrev d' : List ℕ
   d' = whole ours partners n d
 

@@ -9,15 +9,14 @@ use Rattle.scan.specs.Bools.{neither}
 use Rattle.scan.specs.Grammar.{span, place_of, size_of, Span, Part, look}
 use Rattle.fields.specs.Names as name
 use Rattle.changes.specs.declared.Plan.{Plan}
-use Rattle.types.specs.declared.Number.{Number}
-use Rattle.types.specs.declared.Estimate.{Estimate}
+use Rattle.fields.specs.declared.Number.{Number}
+use Rattle.fields.specs.declared.Estimate.{Estimate}
 use Rattle.types.specs.declared.Parts.{Parts}
 use Rattle.message.specs.declared.Record.{Record}
 use Rattle.reader.specs.Reading.{cut}
-use Rattle.pen.specs.declared.Pen.{Pen}
 use Rattle.compose.specs.Layout.{cut_span}
 use Rattle.pen.specs.Listed.{number_parts, plan_parts, rest_parts, span_of, Inside}
-use Rattle.pen.specs.Laying.{rest_blocks, rest_spans, blocks, spans, join, AllInside, Stands, Adds}
+use Rattle.pen.specs.Laying.{End, rest_blocks, rest_spans, blocks, spans, join, AllInside, Stands, Adds}
 use Rattle.writer.specs.Writing.{Content, content_of, Writes}
 use Rattle.writer.specs.Written.{one_text}
 use Rattle.writer.specs.Draft.{digits, of_number, figures_as, numbered, Drafted}
@@ -242,7 +241,7 @@ module _ (ours partners : List ℕ) (n : ℕ) (d : List ℕ) (f : length ours < 
   blocks_moved opening p = sym (λ i. opening ∷ (cut_sender i ++ (47 ∷ (cut_receiver i ++ cut_digits i))) ∷ rest_moved p i)
 
   -- what was laid out under a number is what is laid out of the moved record
-  pub adds_moved : {t e : List ℕ} {x y : Pen} (opening : List ℕ) (p : Parts) → Adds d t x (opening ∷ number_bytes ours partners n ∷ rest_blocks d p) (rest_spans p) e y → Adds (whole ours partners n d) t x (blocks opening (whole ours partners n d) (moved_parts ours partners p)) (spans (moved_parts ours partners p)) e y
+  pub adds_moved : {t e : List ℕ} {x y : End} (opening : List ℕ) (p : Parts) → Adds d t x (opening ∷ number_bytes ours partners n ∷ rest_blocks d p) (rest_spans p) e y → Adds (whole ours partners n d) t x (blocks opening (whole ours partners n d) (moved_parts ours partners p)) (spans (moved_parts ours partners p)) e y
   adds_moved {t} {e} {x} {y} opening p a = record {
     size = a.size;
     was = a.was;

@@ -11,14 +11,13 @@ use Rattle.splice.specs.Splice.{splice, Spliced}
 use Rattle.message.specs.declared.Record.{Record}
 use Rattle.message.specs.declared.Verdict.TheVariants.{Read}
 use Rattle.reader.specs.Reading.{Judged}
-use Rattle.pen.specs.declared.Pen.{Pen}
 use Rattle.writer.specs.declared.Writing.{Writing}
 use Rattle.writer.specs.declared.Writing.TheVariants.{Written, BreaksRule, NoRoom}
 use Rattle.pen.specs.Listed.{span_of, Inside}
 use Rattle.writer.specs.Writing.{content_of, Writes, Wrote}
 use Rattle.compose.specs.Recorded.{part_names, nameless, its_inside}
 use Rattle.writer.specs.Writer.{text_of, text_short, text_alike, alike_text}
-use Rattle.pen.specs.Laying.{AllInside, Stands, Adds, start, opening, blocks, spans, spans_at, all_inside}
+use Rattle.pen.specs.Laying.{End, AllInside, Stands, Adds, start, opening, blocks, spans, spans_at, all_inside}
 use Rattle.scan.specs.Bools.{or_split, known, Decides}
 use Rattle.writer.specs.Comparing.{Back}
 use Rattle.compose.specs.Composed.{composed, composed_is}
@@ -48,7 +47,7 @@ each_inside d r h k =
     (known (among k part_names))
 
 -- a text was laid out in a buffer of 1077 bytes
-module _ (d : List ℕ) (r : Record) (t₀ t : List ℕ) (p : Pen) (z : length t₀ ≡ 1077) (a : Adds d t₀ start (blocks (opening r.kind) d r.parts) (spans r.parts) t p) where
+module _ (d : List ℕ) (r : Record) (t₀ t : List ℕ) (p : End) (z : length t₀ ≡ 1077) (a : Adds d t₀ start (blocks (opening r.kind) d r.parts) (spans r.parts) t p) where
   at_start : Stands t₀ start []
   at_start = record { place = refl; fits = omega arith; bytes = refl }
 

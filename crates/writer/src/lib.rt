@@ -43,11 +43,9 @@ pub fn write(r: Record, d: &[u8], out: &mut [u8]) -> Writing
 {
     let mut text = [0u8; 1077];
     let k = r.kind;
-    let p = compose::lay(&mut text, d, k, r.parts);
-    if !p.ok {
+    let Some(n) = compose::lay(&mut text, d, k, r.parts) else {
         return Writing::BreaksRule;
-    }
-    let n = p.at;
+    };
     if !reads_back(&text[..n], r) {
         return Writing::BreaksRule;
     }
@@ -123,11 +121,9 @@ pub fn draft(
 {
     let number = number_bytes(ours, partners, n);
     let k = r.kind;
-    let p = compose::lay_as(text, &number, d, k, r.parts);
-    if !p.ok {
+    let Some(end) = compose::lay_as(text, &number, d, k, r.parts) else {
         return Drafting::BreaksRule;
-    }
-    let end = p.at;
+    };
     let q = with_number(r, n);
     if !reads_back(&text[..end], q) {
         return Drafting::BreaksRule;

@@ -8,4 +8,4 @@ use Rattle.changes.proofs.from18.Goals as goal
 pub returns : goal.returns
 unfolding from18 found22 among occurs span_by
 returns c =
-    rw (c.no_plan-plan.ensures, is_amended found18 same18 key18 _ _ _ _ c.key-a.ensures c.field18-f.ensures)
+    rw (c.no_plan.ensures, is_amended found18 same18 key18 _ _ _ _ c.lit-a.ensures c.field18-f.ensures)

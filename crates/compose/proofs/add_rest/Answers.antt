@@ -1,14 +1,12 @@
 -- `compose::add_rest` meets its contract.
-use Rattle.pen.specs.Laying.{then}
+use Rattle.pen.specs.Laying.{lays_then}
 use Rattle.compose.proofs.add_rest.Goals as goal
 
 pub returns : goal.returns
 returns c =
-    let a = c.args in
-    then c.add_reference-p1.ensures
-    (then c.add_own-p2.ensures
-    (then c.add_changes-p3.ensures
-    (then c.add_led-p4.ensures
-    (then c.add_led-p5.ensures
-    (then c.add_led-p6.ensures
-    (c.add.ensures a.d.now))))))
+    lays_then c.add_reference.ensures
+    (lays_then c.add_own.ensures
+    (lays_then c.add_changes.ensures
+    (lays_then c.add_led.ensures
+    (lays_then c.add_led-2.ensures
+    (lays_then c.add_led-3.ensures c.add.ensures)))))

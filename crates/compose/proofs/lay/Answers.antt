@@ -1,10 +1,9 @@
 -- `compose::lay` meets its contract.
-use Rattle.pen.specs.Laying.{then}
+use Rattle.std.proofs.Common.{refl, rules}
+use Rattle.pen.specs.Laying.{lays_from_start, lays_then}
 use Rattle.compose.proofs.lay.Goals as goal
 
 pub returns : goal.returns
 returns c =
-    let a = c.args in
-    then (c.open_text-p1.ensures a.d.now)
-    (then c.add_number-p2.ensures
-    c.add_rest.ensures)
+    let p = c.start-pen.ensures in
+    lays_from_start p.source p.text p.end (lays_then c.open_text.ensures (lays_then c.add_number.ensures c.add_rest.ensures)) (search rules) refl

@@ -12,10 +12,10 @@ pub enum_told-1 : goal.enum_told-1
 unfolding nowhere
 enum_told-1 c = search rules
 
-pub returns-in-At : goal.returns-in-At
+pub returns-in-Some : goal.returns-in-Some
 unfolding nowhere
-returns-in-At c = sym (ap nowhere c.in-At.is)
+returns-in-Some c = sym (ap nowhere c.in-Some.is)
 
-pub returns-in-Nowhere : goal.returns-in-Nowhere
+pub returns-in-None : goal.returns-in-None
 unfolding nowhere
-returns-in-Nowhere c = sym (ap nowhere c.in-Nowhere.is)
+returns-in-None c = sym (ap nowhere c.in-None.is)

@@ -2,8 +2,8 @@
 use Rattle.deeds.specs.Deciding.{new_at}
 use Rattle.deeds.proofs.new_place.Goals as goal
 
-pub returns-in-At : goal.returns-in-At
-returns-in-At c = new_at c.args.table.now _ _ c.lowest_free-p.ensures c.in-At.is
+pub returns-in-Some : goal.returns-in-Some
+returns-in-Some c = new_at c.args.table.now _ _ c.lowest_free-p.ensures c.in-Some.is
 
-pub returns-in-Nowhere : goal.returns-in-Nowhere
-returns-in-Nowhere c = new_at c.args.table.now _ _ c.lowest_free-p.ensures c.in-Nowhere.is
+pub returns-in-None : goal.returns-in-None
+returns-in-None c = new_at c.args.table.now _ _ c.lowest_free-p.ensures c.in-None.is

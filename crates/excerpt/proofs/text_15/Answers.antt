@@ -1,8 +1,10 @@
 -- `excerpt::text_15` meets its contract.
+use mathlib.Core.Path.{refl}
 use mathlib.Core.List.{append-nil}
 use native.Mathlib.Omega.{arith}
+use borrow.Author.Rules.{rules}
 use Rattle.excerpt.specs.Excerpt.{texts_of}
-use Rattle.excerpt.proofs.Fitting.{stretch, starts}
+use Rattle.excerpt.proofs.Fitting.{stretch, laid}
 use Rattle.changes.specs.Found.{plan_spans}
 use Rattle.excerpt.proofs.text_15.Goals as goal
 
@@ -10,4 +12,6 @@ pub returns : goal.returns
 returns c =
     let a = c.args in
     let h = c.requires in
-    starts (texts_of a.w.now a.p).field15 (append-nil (texts_of a.w.now a.p).field15) (omega (arith, h.0.short.field15, h.1)) (stretch a.w.now (plan_spans a.p) 11 3 h.0.inside) c.add_15-r.ensures
+    let p = c.start-pen.ensures in
+    laid (texts_of a.w.now a.p).field15 (append-nil (texts_of a.w.now a.p).field15) (omega (arith, h.0.short.field15, h.1)) (stretch a.w.now (plan_spans a.p) 11 3 h.0.inside)
+    p.source p.text p.end c.add_15.ensures (search rules) refl c.unwrap_or.ensures

@@ -1,7 +1,7 @@
 -- `lines::put_labelled` meets its contract. Assumes nothing.
-use native.Mathlib.Omega.{arith}
+use Rattle.std.proofs.Common.{arith}
 use Rattle.splice.specs.Splicing.{then}
 use Rattle.lines.proofs.put_labelled.Goals as goal
 
-pub returns : goal.returns
-returns c = record { spliced = then c.put-number.ensures c.put_number.ensures.spliced (omega arith); upper_bound = omega arith }
+pub returns-clause-spliced : goal.returns-clause-spliced
+returns-clause-spliced c = then c.put-number.ensures c.put_number.ensures.spliced (omega arith)

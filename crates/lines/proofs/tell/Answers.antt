@@ -12,7 +12,7 @@ pub returns-in-Read : goal.returns-in-Read
 unfolding if_read
 returns-in-Read c =
     let a = c.args in
-    let e : verdict a.text.now ≡ Read = sym c.judge-verdict.ensures ∙ c.in-Read.is in
+    let e : verdict a.text.now ≡ Read = sym c.judge.ensures ∙ c.in-Read.is in
     let both = then c.put_number-number.ensures.spliced c.put_type-word.ensures.spliced (omega arith) in
     record {
       wrote = same_bytes (line_read a.k a.text.now e) (then both c.put-next.ensures (omega arith));
@@ -24,7 +24,7 @@ pub returns-in-Refused : goal.returns-in-Refused
 unfolding if_read
 returns-in-Refused c =
     let a = c.args in
-    let e : verdict a.text.now ≡ Refused c.in-Refused.place c.in-Refused.hyphens = sym c.judge-verdict.ensures ∙ c.in-Refused.is in
+    let e : verdict a.text.now ≡ Refused c.in-Refused.place c.in-Refused.hyphens = sym c.judge.ensures ∙ c.in-Refused.is in
     let both = then c.put_number-number.ensures.spliced c.put_refusal-word.ensures.spliced (omega arith) in
     record {
       wrote = same_bytes (line_refused a.k a.text.now c.in-Refused.place c.in-Refused.hyphens e) (then both c.put-next-in-Refused.ensures (omega arith));

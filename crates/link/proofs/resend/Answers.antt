@@ -20,23 +20,23 @@ pub text-requires : goal.text-requires
 text-requires c =
     let a = c.args in
     let g = c.is_sound.ensures.yes (not-false _ c.if-not-is_sound.false-raw) in
-    let i : ℕ = c.in-At.i in
-    let w = kept_at a.n i g (sym c.find-p.ensures ∙ c.in-At.is) in
+    let i : ℕ = c.in-Some.i in
+    let w = kept_at a.n i g (sym c.find-p.ensures ∙ c.in-Some.is) in
     (g.unanswered.whole, w.below, w.short)
 
-pub returns-in-At : goal.returns-in-At
-returns-in-At c =
+pub returns-in-Some : goal.returns-in-Some
+returns-in-Some c =
     let a = c.args in
     let m = lent a.sent.now a.received.now a.unanswered.now a.answers.now in
     let g = c.is_sound.ensures.yes (not-false _ c.if-not-is_sound.false-raw) in
-    let i : ℕ = c.in-At.i in
+    let i : ℕ = c.in-Some.i in
     well_formed (resend (length a.out.now) a.n) a.h m a.out.now c.give.result m _ g
-    (kept_given a.h m a.n i _ a.out.now c.give.result _ g (sym c.find-p.ensures ∙ c.in-At.is) c.text.ensures c.give.ensures)
+    (kept_given a.h m a.n i _ a.out.now c.give.result _ g (sym c.find-p.ensures ∙ c.in-Some.is) c.text.ensures c.give.ensures)
 
-pub returns-in-Nowhere : goal.returns-in-Nowhere
-returns-in-Nowhere c =
+pub returns-in-None : goal.returns-in-None
+returns-in-None c =
     let a = c.args in
     let m = lent a.sent.now a.received.now a.unanswered.now a.answers.now in
     let g = c.is_sound.ensures.yes (not-false _ c.if-not-is_sound.false-raw) in
     well_formed (resend (length a.out.now) a.n) a.h m a.out.now _ m a.out.now g
-    (none_kept a.h m a.n (length a.out.now) a.out.now (sym c.find-p.ensures ∙ c.in-Nowhere.is))
+    (none_kept a.h m a.n (length a.out.now) a.out.now (sym c.find-p.ensures ∙ c.in-None.is))

@@ -1,5 +1,5 @@
 -- `list::broke` meets its contract. Assumes nothing.
-use mathlib.Core.Path.{refl, ap, ◌∙◌}
+use mathlib.Core.Path.{ap, ◌∙◌}
 use mathlib.Core.List.{List, ◌++◌}
 use Prim.Native.Nat.{ℕ}
 use native.Mathlib.Omega.{arith}
@@ -7,9 +7,6 @@ use Rattle.lines.specs.Listing.{broke_off}
 use Rattle.splice.specs.Splicing.{then, front, behind}
 use Rattle.list.proofs.Progressing.{broken_off}
 use Rattle.list.proofs.broke.Goals as goal
-
-pub returns-then-out-lt-ROOM : goal.returns-then-out-lt-ROOM
-returns-then-out-lt-ROOM c = λ line. record { fits = omega arith; rest = refl; none = λ h. refl; ends = λ xs ys a h. absurd (omega arith) }
 
 pub returns : goal.returns
 unfolding broke_off

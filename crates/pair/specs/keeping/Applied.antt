@@ -8,8 +8,7 @@ use Rattle.scan.specs.Bools.{and_r, known}
 use Rattle.message.specs.declared.Record.{Record}
 use Rattle.message.specs.declared.Verdict.TheVariants.{Read}
 use Rattle.reader.specs.Reading.{Judged}
-use Rattle.places.specs.declared.Place.{Place}
-use Rattle.places.specs.declared.Place.TheVariants.{At, Nowhere}
+use Rattle.places.specs.Place.{Place, At, Nowhere}
 use Rattle.places.specs.Places.{Places, is_free, get, set, length_set, get_set, get_other, every_get, every_set, found_below, found_has, found_none}
 use Rattle.flights.specs.Flight.{Flight}
 use Rattle.flights.specs.Decoded.{SoundPlace}

@@ -18,8 +18,7 @@ use Rattle.reader.proofs.Judging.{verdict_right}
 use Rattle.head.specs.declared.Standing.{Standing}
 use Rattle.head.specs.declared.Standing.TheVariants.{New, Old, Stale}
 use Rattle.head.specs.Head.{standing}
-use Rattle.places.specs.declared.Place.{Place}
-use Rattle.places.specs.declared.Place.TheVariants.{At, Nowhere}
+use Rattle.places.specs.Place.{Place, At, Nowhere}
 use Rattle.places.specs.Places.{Places, is_free, get, found_below}
 use Rattle.flights.specs.Flight.{Flight}
 use Rattle.flights.specs.Holding.{FlightsFormed}

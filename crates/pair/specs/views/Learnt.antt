@@ -9,8 +9,7 @@ use Rattle.message.specs.declared.Verdict.{Verdict}
 use Rattle.message.specs.declared.Verdict.TheVariants.{Read}
 use Rattle.reader.specs.Reader.{verdict}
 use Rattle.head.specs.Head.{standing}
-use Rattle.places.specs.declared.Place.{Place}
-use Rattle.places.specs.declared.Place.TheVariants.{At, Nowhere}
+use Rattle.places.specs.Place.{Place, At, Nowhere}
 use Rattle.places.specs.Places.{Places, get, set, used}
 use Rattle.flights.specs.Flight.{Flight}
 use Rattle.unanswered.specs.Waiting.{Waiting, is_answer}

@@ -9,8 +9,7 @@ use Rattle.scan.specs.Bools.{and_l, and_r, both, or_l, or_r, neither, same_bool}
 use Rattle.message.specs.declared.Kind.{Kind}
 use Rattle.message.specs.declared.Kind.TheVariants.{None, Fpl, Cpl, Est, Chg, Cnl, Rti, Rta, Rla, Lam, Lrm}
 use Rattle.head.specs.declared.Head.{Head}
-use Rattle.places.specs.declared.Place.{Place}
-use Rattle.places.specs.declared.Place.TheVariants.{At, Nowhere}
+use Rattle.places.specs.Place.{Place, At, Nowhere}
 use Rattle.places.specs.Bytes.{same, same_is}
 use Rattle.places.specs.Places.{Places, get, first_of, used, empty, is_free as is_none}
 use Rattle.flights.specs.Flight.{Flight}

@@ -10,8 +10,7 @@ use Rattle.pair.specs.kinds.Tools.{key_of, amended_key, guard, under, same?, tru
 use Rattle.message.specs.declared.Kind.{Kind}
 use Rattle.message.specs.declared.Kind.TheVariants.{None, Fpl, Cpl, Est, Chg, Cnl, Rti, Rta, Rla, Lam, Lrm}
 use Rattle.message.specs.Record.{is_chg}
-use Rattle.places.specs.declared.Place.{Place}
-use Rattle.places.specs.declared.Place.TheVariants.{At, Nowhere}
+use Rattle.places.specs.Place.{Place, At, Nowhere}
 use Rattle.places.specs.Places.{Places, is_free, get, set, first_of, used, empty, length_set, get_set, get_other, every_get, found_below, found_has, found_none}
 use Rattle.flights.specs.Flight.{Flight, Status, filed, active, Handoff, Sound, Offered}
 use Rattle.flights.specs.Decoded.{SoundPlace}

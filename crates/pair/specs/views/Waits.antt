@@ -8,8 +8,7 @@ use mathlib.Core.List.{List, [], ◌∷◌}
 use Prim.Native.Nat.{ℕ, zero, suc, ◌+◌, ◌<◌}
 use Rattle.pair.specs.kinds.Tools.{get_below, upd, upd_same, upd_other, same?, true_false, none_some, some_inj, free_none as none_where_free}
 use Rattle.scan.specs.Bools.{neither}
-use Rattle.places.specs.declared.Place.{Place}
-use Rattle.places.specs.declared.Place.TheVariants.{At, Nowhere}
+use Rattle.places.specs.Place.{Place, At, Nowhere}
 use Rattle.places.specs.Places.{Places, get, set, is_free, get_set, get_other, found_below, found_has, found_none, first_set}
 use Rattle.unanswered.specs.Waiting.{Waiting}
 use Rattle.deeds.specs.Message.{Message}

@@ -1,20 +1,9 @@
-use borrow.Author.Rules.{rules}
-use mathlib.Core.Path.{refl}
-use native.Mathlib.Omega.{arith}
+use Rattle.std.proofs.Common.{arith}
 use Rattle.places.specs.Bytes.{each_more, each_done}
 use Rattle.places.proofs.all_are.Goals as goal
 
-pub loop-i-preserved : goal.loop-i-preserved
-loop-i-preserved c =
-    let l = c.loop-i in
-    let a = c.args in
-    (search rules, each_more a.v a.s.now l.i l.ok _ (omega arith) l.invariant.1)
+pub loop-b-preserved : goal.loop-b-preserved
+loop-b-preserved c = let a = c.args in each_more a.v a.s.now c.loop-b.b-index c.loop-b.ok _ c.loop-b-test.true c.loop-b.invariant
 
 pub returns : goal.returns
-returns c =
-    let l = c.loop-i in
-    let a = c.args in
-    each_done a.v a.s.now l.i l.ok _ l.invariant.0 (omega arith) l.invariant.1
-
-pub loop-i-init : goal.loop-i-init
-loop-i-init c = (search rules, refl)
+returns c = let a = c.args in each_done a.v a.s.now c.loop-b.b-index c.loop-b.ok _ (omega arith) c.loop-b-test.false c.loop-b.invariant

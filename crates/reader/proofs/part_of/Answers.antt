@@ -1,11 +1,8 @@
-use mathlib.Core.Path.{◌≡◌}
-use Prim.Native.Nat.{◌+◌, ◌-◌}
-use native.Mathlib.Omega.{arith}
-use Rattle.scan.specs.Grammar.{place_of, size_of}
+use Rattle.std.proofs.Common.{arith, ◌≡◌, ◌+◌, ◌-◌}
+use Rattle.scan.specs.Grammar.{size_of}
 use Rattle.reader.proofs.part_of.Goals as goal
 
 pub returns : goal.returns
 returns c =
-    let p = c.args.p in
-    let e : place_of p + size_of p - place_of p ≡ size_of p = omega arith in
-    rw e
+    let e : c.place-at.result + c.size.result - c.place-at.result ≡ size_of c.args.p = omega (arith, c.size.ensures.0) in
+    rw (e, c.place-at.ensures.0)

@@ -1,10 +1,11 @@
 -- `response::lay_lam` meets its contract.
-use Rattle.pen.specs.Laying.{then}
+use Rattle.std.proofs.Common.{refl, rules}
+use Rattle.pen.specs.Laying.{lays_from_start, lays_then}
 use Rattle.response.proofs.lay_lam.Goals as goal
 
 pub returns : goal.returns
 returns c =
-    let a = c.args in
-    then (c.open_text-p.ensures a.w.now)
-    (then c.add_numbers-p1.ensures
-    (c.add.ensures a.w.now))
+    let p = c.start-pen.ensures in
+    lays_from_start p.source p.text p.end
+    (lays_then c.open_text.ensures (lays_then c.add_numbers.ensures c.add.ensures))
+    (search rules) refl

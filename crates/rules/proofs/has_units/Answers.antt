@@ -6,6 +6,6 @@ use Rattle.rules.proofs.has_units.Goals as goal
 
 pub returns : goal.returns
 returns c =
-    let x = same_on c.same-x.ensures c.text_in.ensures refl in
-    let y = same_on c.same-y.ensures c.text_in-2.ensures refl in
+    let x = same_on c.same.ensures c.text_in.ensures refl in
+    let y = same_on c.same-2.ensures c.text_in-2.ensures refl in
     λ k. x k && y k

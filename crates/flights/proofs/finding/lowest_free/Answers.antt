@@ -1,28 +1,14 @@
-use borrow.Author.Rules.{rules}
-use mathlib.Core.Path.{sym, ap, ◌∙◌}
-use Prim.Native.Nat.{ℕ, ◌/◌}
-use lib.ListN.{length}
-use lib.Dec.{eqb}
-use borrow.Author.Tests.{eq-eqb, ne_eqb}
-use Rattle.places.specs.Search.{from_first, first_here, first_next, first_none}
-use Rattle.flights.specs.Table.{place, status_at}
+-- `flights::finding::lowest_free` meets its contract.
+use Rattle.std.proofs.Common.{rules, ◌∙◌, length, ◌/◌}
+use borrow.Author.Tests.{tests}
+use Rattle.std.specs.Simd.{first_chunks}
+use Rattle.std.proofs.lemmas.Iterator.{YieldsList-from_slice}
+use Rattle.std.proofs.lemmas.Iterator.Search.{position_from_yields_List}
 use Rattle.places.specs.Bytes.{free}
+use Rattle.places.specs.Chunks.{found_chunk}
 use Rattle.flights.proofs.finding.lowest_free.Goals as goal
 
-pub returns-then-table-i-eq0 : goal.returns-then-table-i-eq0
-returns-then-table-i-eq0 c =
-    let l = c.loop-i in
-    let T = c.args.table.now in
-    sym (l.invariant.1 ∙ first_here (λ k. free (place k T)) (length T / 768) l.i c.loop-i-test.true (ap (λ (x : ℕ). eqb x 0) (status_at T l.i) ∙ eq-eqb _ _ c.if-table-i-eq0.true))
-
-pub loop-i-preserved : goal.loop-i-preserved
-loop-i-preserved c =
-    let l = c.loop-i in
-    let T = c.args.table.now in
-    (search rules, l.invariant.1 ∙ first_next (λ k. free (place k T)) (length T / 768) l.i c.loop-i-test.true (ap (λ (x : ℕ). eqb x 0) (status_at T l.i) ∙ ne_eqb _ _ c.if-table-i-eq0.false))
-
 pub returns : goal.returns
-returns c = let l = c.loop-i in let T = c.args.table.now in sym (l.invariant.1 ∙ first_none (λ k. free (place k T)) (length T / 768) l.i c.loop-i-test.false)
-
-pub loop-i-init : goal.loop-i-init
-loop-i-init c = (search rules, from_first _ _)
+returns c =
+    let t = c.args.table.now in
+    position_from_yields_List free _ _ _ c.position.ensures.ran (YieldsList-from_slice (first_chunks 768 (length t / 768) t) (c.iter.ensures.rest ∙ c.as_chunks.ensures.front)) (λ x b q k. search (rules, tests)) ∙ found_chunk 768 free (length t / 768) t

@@ -1,12 +1,14 @@
 -- `flights::tables::is_table` meets its contract.
-use Prim.Native.Nat.{◌*◌}
-use lib.ListN.{length}
-use Rattle.scan.specs.Bools.{equals, at_most}
+use Rattle.std.proofs.Common.{◌≡◌, ◌*◌, ◌≤◌, length, rules}
+use borrow.Author.Tests.{tests}
 use Rattle.flights.specs.Table.{places}
 use Rattle.flights.specs.Formed.{table_is}
 use Rattle.flights.proofs.tables.is_table.Goals as goal
 
 pub returns : goal.returns
 returns c =
-    let T = c.args.table.now in
-    table_is T _ _ _ _ (at_most 1 (places T)) (at_most (places T) 32) (equals (length T) (places T * 768)) c.places_formed.ensures
+    let t = c.args.table.now in
+    let s : 1 ≤ places t = search (rules, tests) in
+    let m : places t ≤ 32 = search (rules, tests) in
+    let w : length t ≡ places t * 768 = search (rules, tests) in
+    table_is t c.as_chunks.result.0.now c.as_chunks.ensures.front c.as_chunks.ensures.front_len _ s m w c.records_formed.ensures

@@ -1,0 +1,12 @@
+-- `pen::Pen::add_09` meets its contract.
+use mathlib.Core.Path.{sym, ◌∙◌}
+use mathlib.Core.List.{append-nil}
+use Rattle.reader.specs.Reading.{cut}
+use Rattle.pen.specs.Laying.{lays_given, lays_then, own_part}
+use Rattle.pen.proofs.Pen.add_09.Goals as goal
+
+pub returns-then-any_there : goal.returns-then-any_there
+returns-then-any_there c =
+    let a = c.args in
+    lays_given _ (sym c.any_there.ensures ∙ c.if-any_there.true) (λ d. rw (append-nil (cut d a.c), own_part d a.a))
+    (lays_then c.add.ensures (lays_then c.add_part.ensures (lays_then c.add_part-then-any_there.ensures (lays_then c.add-then-any_there.ensures c.add_part-then-any_there-2.ensures))))

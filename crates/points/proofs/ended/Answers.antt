@@ -1,4 +1,0 @@
-use Rattle.points.proofs.ended.Goals as goal
-
-pub returns : goal.returns
-returns c = rw c.alnums-z.ensures

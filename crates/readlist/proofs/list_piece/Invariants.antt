@@ -1,9 +1,0 @@
--- What is left of the piece falls with each step.
-use Rattle.std.proofs.Common.{length, ◌-◌, ◌≤◌}
-use Rattle.readlist.proofs.list_piece.Given as goal
-
-abbrev pub invariant-loop-at : goal.invariant-loop-at
-invariant-loop-at g l = l.at ≤ length l.piece
-
-abbrev pub decreases-loop-at : goal.decreases-loop-at
-decreases-loop-at g l = length l.piece - l.at

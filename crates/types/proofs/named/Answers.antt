@@ -1,4 +1,0 @@
-use Rattle.types.proofs.named.Goals as goal
-
-pub returns : goal.returns
-returns c = rw c.none-n.ensures
