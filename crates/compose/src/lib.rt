@@ -8,37 +8,37 @@ ghost use Rattle.changes.specs.Found.{plan_spans};
 
 use changes::Plan;
 use message::Kind;
-use pen::Pen;
+use pen::{Pen, Sheet};
 use types::{Estimate, Parts};
 
 // The message's own fields, in their order. This list and the next stand apart: each reads as its list of fields, and one over
 // both would take a table of leads, with field 14 between two halves of it.
-fn add_own(pen: &mut Pen, o: Plan, e: Estimate)
-    ensures { Lays pen.old (λ d. own_blocks d o e) (own_spans o e) pen.new }
+fn add_own(sheet: &mut Sheet, o: Plan, e: Estimate)
+    ensures { Lays sheet.old (λ d. own_blocks d o e) (own_spans o e) sheet.new }
 {
-    pen.add_07(b"-", o.aircraft, o.code);
-    pen.add_pair(b"-", o.rules, o.flight);
-    pen.add_09(b"-", o.count, o.model, o.wake);
-    pen.add_10(b"-", o.equipment, o.surveillance);
-    pen.add_pair(b"-", o.departure, o.time);
-    pen.add_14(b"-", e.point, e.over, e.crossing, e.second, e.sense);
-    pen.add_15(b"-", o.speed, o.level, o.route);
-    pen.add_16(b"-", o.destination, o.elapsed, o.alternate, o.alternate2);
-    pen.add_18(b"-", o.indicator, o.other);
+    sheet.add_07(b"-", o.aircraft, o.code);
+    sheet.add_pair(b"-", o.rules, o.flight);
+    sheet.add_09(b"-", o.count, o.model, o.wake);
+    sheet.add_10(b"-", o.equipment, o.surveillance);
+    sheet.add_pair(b"-", o.departure, o.time);
+    sheet.add_14(b"-", e.point, e.over, e.crossing, e.second, e.sense);
+    sheet.add_15(b"-", o.speed, o.level, o.route);
+    sheet.add_16(b"-", o.destination, o.elapsed, o.alternate, o.alternate2);
+    sheet.add_18(b"-", o.indicator, o.other);
 }
 
 // The fields within field 22, in ascending order.
-fn add_changes(pen: &mut Pen, o: Plan)
-    ensures { Lays pen.old (λ d. change_blocks d o) (plan_spans o) pen.new }
+fn add_changes(sheet: &mut Sheet, o: Plan)
+    ensures { Lays sheet.old (λ d. change_blocks d o) (plan_spans o) sheet.new }
 {
-    pen.add_07(b"-07/", o.aircraft, o.code);
-    pen.add_pair(b"-08/", o.rules, o.flight);
-    pen.add_09(b"-09/", o.count, o.model, o.wake);
-    pen.add_10(b"-10/", o.equipment, o.surveillance);
-    pen.add_pair(b"-13/", o.departure, o.time);
-    pen.add_15(b"-15/", o.speed, o.level, o.route);
-    pen.add_16(b"-16/", o.destination, o.elapsed, o.alternate, o.alternate2);
-    pen.add_18(b"-18/", o.indicator, o.other);
+    sheet.add_07(b"-07/", o.aircraft, o.code);
+    sheet.add_pair(b"-08/", o.rules, o.flight);
+    sheet.add_09(b"-09/", o.count, o.model, o.wake);
+    sheet.add_10(b"-10/", o.equipment, o.surveillance);
+    sheet.add_pair(b"-13/", o.departure, o.time);
+    sheet.add_15(b"-15/", o.speed, o.level, o.route);
+    sheet.add_16(b"-16/", o.destination, o.elapsed, o.alternate, o.alternate2);
+    sheet.add_18(b"-18/", o.indicator, o.other);
 }
 
 // "(" and the letters of the type; of no type there is a text that is not read.
@@ -61,45 +61,45 @@ fn letters_of(k: Kind) -> [u8; 4]
     }
 }
 
-pub fn open_text(pen: &mut Pen, k: Kind)
-    ensures { Lays pen.old (λ _. opening k ∷ []) [] pen.new }
+pub fn open_text(sheet: &mut Sheet, k: Kind)
+    ensures { Lays sheet.old (λ _. opening k ∷ []) [] sheet.new }
 {
-    pen.add(&letters_of(k));
+    sheet.add(&letters_of(k));
 }
 
 // What follows the number.
-fn add_rest(pen: &mut Pen, q: Parts)
-    ensures { Lays pen.old (λ d. rest_blocks d q) (rest_spans q) pen.new }
+fn add_rest(sheet: &mut Sheet, q: Parts)
+    ensures { Lays sheet.old (λ d. rest_blocks d q) (rest_spans q) sheet.new }
 {
     let r = q.reference;
-    pen.add_reference(r.sender, r.receiver, r.digits);
-    add_own(pen, q.own, q.estimate);
-    add_changes(pen, q.changes);
-    pen.add_led(b"-", q.sector);
-    pen.add_led(b"-", q.track);
-    pen.add_led(b"-RMK/", q.reason);
-    pen.add(b")");
+    sheet.add_reference(r.sender, r.receiver, r.digits);
+    add_own(sheet, q.own, q.estimate);
+    add_changes(sheet, q.changes);
+    sheet.add_led(b"-", q.sector);
+    sheet.add_led(b"-", q.track);
+    sheet.add_led(b"-RMK/", q.reason);
+    sheet.add(b")");
 }
 
 // Lays out the text that the parts compose, and answers its length, if it fits.
-pub fn lay(text: &mut [u8], d: &[u8], k: Kind, q: Parts) -> Option<usize>
+pub fn lay(text: &mut [u8], d: &[u8], k: Kind, q: Parts) -> Pen
     ensures { Adds d.now text.old start (blocks (opening k) d.now q) (spans q) text.new (end_of result) }
 {
     let n = q.number;
-    let mut pen = Pen::start(text, d);
-    open_text(&mut pen, k);
-    pen.add_number(n.sender, n.receiver, n.digits);
-    add_rest(&mut pen, q);
-    pen.end
+    let mut sheet = Sheet::start(text, d);
+    open_text(&mut sheet, k);
+    sheet.add_number(n.sender, n.receiver, n.digits);
+    add_rest(&mut sheet, q);
+    sheet.end
 }
 
 // Lays out the same text with these bytes in the place of its number.
-pub fn lay_as(text: &mut [u8], number: &[u8], d: &[u8], k: Kind, q: Parts) -> Option<usize>
+pub fn lay_as(text: &mut [u8], number: &[u8], d: &[u8], k: Kind, q: Parts) -> Pen
     ensures { Adds d.now text.old start (opening k ∷ number.now ∷ rest_blocks d.now q) (rest_spans q) text.new (end_of result) }
 {
-    let mut pen = Pen::start(text, d);
-    open_text(&mut pen, k);
-    pen.add(number);
-    add_rest(&mut pen, q);
-    pen.end
+    let mut sheet = Sheet::start(text, d);
+    open_text(&mut sheet, k);
+    sheet.add(number);
+    add_rest(&mut sheet, q);
+    sheet.end
 }

@@ -13,7 +13,7 @@ use Rattle.message.specs.declared.Record.{Record}
 use Rattle.message.specs.declared.Verdict.TheVariants.{Read}
 use Rattle.reader.specs.Reading.{Judged}
 use Rattle.pen.specs.Listed.{span_of}
-use Rattle.pen.specs.declared.Pen.{Pen}
+use Rattle.pen.specs.declared.Sheet.{Sheet}
 use Rattle.pen.specs.Laying.{End, join, Stands, AllInside, Adds, start, end_of, Lays, lays_from_start, all_inside}
 use Rattle.compose.specs.Recorded.{its_inside}
 use Rattle.excerpt.specs.Excerpt.{Texts, texts_of, field14_of, Short, FitsIn, Fits14, Starts}
@@ -107,5 +107,5 @@ pub fits : {w b e : List ℕ} {n : ℕ} {xs : List (List ℕ)} {qs : List Span} 
 fits {b = b} {e = e} o t i h q a m = subst (Starts t b e) (sym (m ∙ length_of o)) (starts t i h q a)
 
 -- what a pen laid out from the start of a buffer on, where e stands in it in the end
-pub laid : {w b e : List ℕ} {o : Option ℕ} {n : ℕ} {p r : Pen} {xs : List ℕ → List (List ℕ)} {qs : List Span} (t : List ℕ) → join (xs w) ≡ t → length t ≤ length b → AllInside w qs → p.source.now ≡ w → p.text.now ≡ b → p.end ≡ Some 0 → Lays p xs qs r → r.text.now ≡ e → o ≡ r.end → n ≡ unwrap_or o 0 → Starts t b e n
+pub laid : {w b e : List ℕ} {o : Option ℕ} {n : ℕ} {p r : Sheet} {xs : List ℕ → List (List ℕ)} {qs : List Span} (t : List ℕ) → join (xs w) ≡ t → length t ≤ length b → AllInside w qs → p.source.now ≡ w → p.text.now ≡ b → p.end ≡ Some 0 → Lays p xs qs r → r.text.now ≡ e → o ≡ r.end → n ≡ unwrap_or o 0 → Starts t b e n
 laid {o = o} t i h q s k z a f g m = fits o t i h q (lays_from_start s k z a f (sym g)) m

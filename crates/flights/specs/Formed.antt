@@ -5,6 +5,7 @@ use Rattle.std.specs.Simd.{first_chunks}
 use Rattle.std.proofs.Common.{sym, ap, ◌∙◌, subst, ⊎_elim, arith, length-drop, length-take-le, get_or-take, get_or-drop}
 use Rattle.std.proofs.lemmas.Bool.{false≢true, not-true}
 use Rattle.scan.specs.Bools.{known, Decides, decides_and, decides_as}
+use Rattle.places.specs.Below.{Below}
 use Rattle.places.specs.Chunks.{chunk_at}
 use Rattle.flights.specs.Padding.{padded, trimmed, padded_back}
 use Rattle.flights.specs.Flight.{flight_of, WellFormed}
@@ -92,7 +93,15 @@ module _ (a b : List ℕ) (p : length a ≡ 768) (q : length b ≡ 768) where
       (e ∙ raw_same 4 (take 4 (drop 17 a)) (take 4 (drop 17 b)) (cut_long a 17 4 p (omega arith)) (cut_long b 17 4 q (omega arith)))
       (f ∙ raw_same 4 (take 4 (drop 25 a)) (take 4 (drop 25 b)) (cut_long a 25 4 p (omega arith)) (cut_long b 25 4 q (omega arith)))
 
--- THE TABLE, as its records one after the other
+-- THE TABLE, with a decision of each thing that is asked of it
+pub table_is : (t : List ℕ) (w x y z : Bool) → Decides w (1 ≤ places t) → Decides x (places t ≤ 32) → Decides y (length t ≡ places t * 768) → Decides z (Below (λ i. WellFormed (place i t) × Below (λ j. Apart (place j t) (place i t)) i) (places t)) → Decides (((w && x) && y) && z) (TableFormed t)
+table_is t w x y z a b c d =
+    decides_as
+    (λ p. record { some = p.0.0.0; most = p.0.0.1; whole = p.0.1; each = λ i h. (p.1 i h).0; keys = λ i h. (p.1 i h).1 })
+    (λ f. (((f.some, f.most), f.whole), λ i h. (f.each i h, f.keys i h)))
+    (decides_and (decides_and (decides_and a b) c) d)
+
+-- and as its records one after the other, where it has 1 to 32 of them and nothing stands behind
 module _ (t : List ℕ) (l : List (List ℕ)) (e : l ≡ first_chunks 768 (places t) t) (n : length l ≡ places t) where
   record_at : (i : ℕ) (d : List ℕ) → i < places t → get_or l i d ≡ place i t
   record_at i d h = ap (λ (m : List (List ℕ)). get_or m i d) e ∙ chunk_at 768 i (places t) t d h
@@ -103,22 +112,25 @@ module _ (t : List ℕ) (l : List (List ℕ)) (e : l ≡ first_chunks 768 (place
   lower_long : (i : ℕ) → i < places t → length (take i l) ≡ i
   lower_long i h = length-take-le i l (omega arith)
 
-  pub table_is : (b : Bool) → 1 ≤ places t → places t ≤ 32 → length t ≡ places t * 768 → Decides b (RecordsFormed l) → Decides b (TableFormed t)
-  table_is b s m w =
+  each_is : (b : Bool) → Decides b (RecordsFormed l) → Decides b (Below (λ i. WellFormed (place i t) × Below (λ j. Apart (place j t) (place i t)) i) (places t))
+  each_is b =
       decides_as
-      (λ f. record {
-        some = s;
-        most = m;
-        whole = w;
-        each = λ i h. subst WellFormed (record_at i [] h) (f i (omega arith)).0;
-        keys = λ i h j k.
+      (λ f i h. (
+        subst WellFormed (record_at i [] h) (f i (omega arith)).0,
+        λ j k.
             let a : Apart (get_or (take i l) j []) (get_or l i []) = (f i (omega arith)).1 j [] (omega (arith, lower_long i h)) in
-            subst (λ (x : List ℕ). Apart x (place i t)) (lower_at i j [] h k) (subst (λ (y : List ℕ). Apart (get_or (take i l) j []) y) (record_at i [] h) a);
-      })
+            subst (λ (x : List ℕ). Apart x (place i t)) (lower_at i j [] h k) (subst (λ (y : List ℕ). Apart (get_or (take i l) j []) y) (record_at i [] h) a),
+      ))
       (λ f i h.
       let q : i < places t = omega arith in (
-        subst WellFormed (sym (record_at i [] q)) (f.each i q),
+        subst WellFormed (sym (record_at i [] q)) (f i q).0,
         λ j d k.
             let r : j < i = omega (arith, lower_long i q, k) in
-            subst (λ (x : List ℕ). Apart x (get_or l i [])) (sym (lower_at i j d q r)) (subst (λ (y : List ℕ). Apart (place j t) y) (sym (record_at i [] q)) (f.keys i q j r)),
+            subst (λ (x : List ℕ). Apart x (get_or l i [])) (sym (lower_at i j d q r)) (subst (λ (y : List ℕ). Apart (place j t) y) (sym (record_at i [] q)) ((f i q).1 j r)),
       ))
+
+  pub records_are : (b : Bool) → 1 ≤ places t → places t ≤ 32 → length t ≡ places t * 768 → Decides b (RecordsFormed l) → Decides b (TableFormed t)
+  records_are b s m w d = table_is t true true true b (so s) (so m) (so w) (each_is b d)
+    where
+      so : {P : Type 0} → P → Decides true P
+      so p = record { yes = λ e. p; no = λ q. refl }

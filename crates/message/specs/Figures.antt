@@ -1,11 +1,12 @@
 -- Laws of the numbers that parts stand for.
-use Rattle.std.specs.Prelude.{◌≡◌, refl, ◌⊎◌, Bool, true, false, ◌&&◌, List, [], ◌∷◌, ℕ, zero, suc, ◌+◌, ◌-◌, ◌*◌, ◌≤◌, length, get_or, leb, eqb}
+use Rattle.std.specs.Prelude.{◌≡◌, refl, ◌⊎◌, Bool, true, false, ◌&&◌, List, [], ◌∷◌, ℕ, zero, suc, ◌+◌, ◌-◌, ◌*◌, ◌≤◌, ◌<◌, length, get_or, leb, eqb}
 use Rattle.std.proofs.Common.{sym, ◌∙◌, inl, inr, arith}
 use borrow.Author.Tests.{leb-true, eqb-true, ne_eqb}
 use Rattle.scan.specs.Grammar.{place_of, size_of, Span}
 use Rattle.scan.specs.Bools.{known, and_l, and_r, both}
 use Rattle.changes.specs.declared.Plan.{Plan}
 use Rattle.types.specs.declared.Parts.{Parts}
+use Rattle.types.specs.Picking.{letters_of}
 use Rattle.message.specs.Record.{figure, figure_at, figure_in, level_in, form_in, plan_figures_of, figures_of, kind_of}
 use Rattle.message.specs.declared.Kind.TheVariants.{None}
 use Rattle.message.specs.declared.LevelKind.TheVariants.{Absent}
@@ -88,3 +89,9 @@ pub no_kind : (w : ℕ) → (w ≡ 4608076 → ⊥) → (w ≡ 4411468 → ⊥) 
 unfolding kind_of
 no_kind w a b c d e f g h i j =
     rw (ne_eqb w 4608076 a, ne_eqb w 4411468 b, ne_eqb w 4543316 c, ne_eqb w 4409415 d, ne_eqb w 4410956 e, ne_eqb w 5395529 f, ne_eqb w 5395521 g, ne_eqb w 5393473 h, ne_eqb w 4997453 i, ne_eqb w 5001805 j)
+
+-- a text of fewer than four bytes names no type
+pub short_kind : (s : List ℕ) → length s < 4 → None ≡ kind_of (letters_of s)
+short_kind s h =
+    let z : get_or s 3 0 ≡ 0 = get_d_past s 3 (omega arith) in
+    no_kind (letters_of s) (λ e. omega arith) (λ e. omega arith) (λ e. omega arith) (λ e. omega arith) (λ e. omega arith) (λ e. omega arith) (λ e. omega arith) (λ e. omega arith) (λ e. omega arith) (λ e. omega arith)

@@ -13,7 +13,7 @@ use Rattle.splice.specs.Splicing.{front, kept_length}
 use Rattle.message.specs.declared.Kind.{Kind}
 use Rattle.message.specs.declared.Kind.TheVariants.{None, Fpl, Cpl, Est, Chg, Cnl, Rti, Rta, Rla, Lam, Lrm}
 use Rattle.reader.specs.Reading.{cut, cut_none}
-use Rattle.pen.specs.declared.Pen.{Pen}
+use Rattle.pen.specs.declared.Sheet.{Sheet}
 use Rattle.pen.specs.Listed.{Inside}
 use Rattle.changes.specs.Found.{plan_spans}
 
@@ -119,13 +119,13 @@ then {d} {t} {e} {f} {p} {r} {s} {xs} {ys} {qs} {rs} a b = record {
       (known r.ok);
 }
 
--- what a pen did: in the buffer that it has it laid out the blocks that xs makes of its source, with the parts qs in them
-pub record Lays (p : Pen) (xs : List ℕ → List (List ℕ)) (qs : List Span) (r : Pen) : Type 0 where
+-- what was done on a sheet: in the buffer that it has were laid out the blocks that xs makes of its source, with the parts qs in them
+pub record Lays (p : Sheet) (xs : List ℕ → List (List ℕ)) (qs : List Span) (r : Sheet) : Type 0 where
   pub buffer : r.text.ghost_name ≡ p.text.ghost_name
   pub source : r.source ≡ p.source
   pub adds : Adds p.source.now p.text.now (end_of p.end) (xs p.source.now) qs r.text.now (end_of r.end)
 
-pub lays_then : {p r s : Pen} {xs ys : List ℕ → List (List ℕ)} {qs rs : List Span} → Lays p xs qs r → Lays r ys rs s → Lays p (λ d. xs d ++ ys d) (qs ++ rs) s
+pub lays_then : {p r s : Sheet} {xs ys : List ℕ → List (List ℕ)} {qs rs : List Span} → Lays p xs qs r → Lays r ys rs s → Lays p (λ d. xs d ++ ys d) (qs ++ rs) s
 lays_then a b = record {
   buffer = b.buffer ∙ a.buffer;
   source = b.source ∙ a.source;
@@ -153,14 +153,14 @@ alike {d} {t} {e} {p} {r} {xs} {ys} {qs} h a = record {
 }
 
 -- from the start on; e is what stands in the buffer in the end, and o how long the text is
-pub lays_from_start : {d t e : List ℕ} {o : Option ℕ} {p r : Pen} {xs : List ℕ → List (List ℕ)} {qs : List Span} → p.source.now ≡ d → p.text.now ≡ t → p.end ≡ Some 0 → Lays p xs qs r → r.text.now ≡ e → r.end ≡ o → Adds d t start (xs d) qs e (end_of o)
+pub lays_from_start : {d t e : List ℕ} {o : Option ℕ} {p r : Sheet} {xs : List ℕ → List (List ℕ)} {qs : List Span} → p.source.now ≡ d → p.text.now ≡ t → p.end ≡ Some 0 → Lays p xs qs r → r.text.now ≡ e → r.end ≡ o → Adds d t start (xs d) qs e (end_of o)
 lays_from_start {d} {t} {e} {o} {p} {r} {xs} {qs} s b n a f g = rw (sym s, sym b, sym f, sym g) (subst (λ z. Adds p.source.now p.text.now (end_of z) (xs p.source.now) qs r.text.now (end_of r.end)) n a.adds)
 
 -- it fitted, and is n bytes long
 pub fitted : {d t e : List ℕ} {p : End} {xs : List (List ℕ)} {qs : List Span} {o : Option ℕ} (n : ℕ) → o ≡ Some n → Adds d t p xs qs e (end_of o) → Adds d t p xs qs e (end_of (Some n))
 fitted {d} {t} {e} {p} {xs} {qs} n i a = subst (λ z. Adds d t p xs qs e (end_of z)) i a
 
-pub lays_alike : {p r : Pen} {xs ys : List ℕ → List (List ℕ)} {qs : List Span} → ((d : List ℕ) → join (xs d) ≡ join (ys d)) → Lays p xs qs r → Lays p ys qs r
+pub lays_alike : {p r : Sheet} {xs ys : List ℕ → List (List ℕ)} {qs : List Span} → ((d : List ℕ) → join (xs d) ≡ join (ys d)) → Lays p xs qs r → Lays p ys qs r
 lays_alike {p = p} e a = record { buffer = a.buffer; source = a.source; adds = alike (e p.source.now) a.adds }
 
 -- A BLOCK
@@ -203,7 +203,7 @@ added d t e p r x o v h s = record {
   off = λ w k y i m. absurd (false≢true (sym m ∙ v));
 }
 
-pub lays_added : (p r : Pen) (k : ℕ) (x : List ℕ) → r.text.ghost_name ≡ p.text.ghost_name → r.source ≡ p.source → p.end ≡ Some k → k + length x ≤ length p.text.now → (m : ℕ) → r.end ≡ Some m → Spliced k x p.text.now r.text.now m → Lays p (λ _. x ∷ []) [] r
+pub lays_added : (p r : Sheet) (k : ℕ) (x : List ℕ) → r.text.ghost_name ≡ p.text.ghost_name → r.source ≡ p.source → p.end ≡ Some k → k + length x ≤ length p.text.now → (m : ℕ) → r.end ≡ Some m → Spliced k x p.text.now r.text.now m → Lays p (λ _. x ∷ []) [] r
 lays_added p r k x b s e v m f h = record {
   buffer = b;
   source = s;
@@ -261,7 +261,7 @@ skipped d t p qs y e = nothing d t p (given (lens qs) y ∷ []) qs (ap (λ (z : 
 pub stands : {d t e : List ℕ} {p r : End} {xs : List (List ℕ)} {qs : List Span} (y : List ℕ) → 0 < total (lens qs) → join xs ≡ y → Adds d t p xs qs e r → Adds d t p (given (lens qs) y ∷ []) qs e r
 stands {qs = qs} y h e a = alike (e ∙ sym (append-nil y) ∙ ap (λ (z : List ℕ). z ++ []) (sym (is_given (lens qs) y h))) a
 
-pub lays_given : {p r : Pen} {xs : List ℕ → List (List ℕ)} {qs : List Span} (y : List ℕ → List ℕ) → any_of qs ≡ true → ((d : List ℕ) → join (xs d) ≡ y d) → Lays p xs qs r → Lays p (λ d. given (lens qs) (y d) ∷ []) qs r
+pub lays_given : {p r : Sheet} {xs : List ℕ → List (List ℕ)} {qs : List Span} (y : List ℕ → List ℕ) → any_of qs ≡ true → ((d : List ℕ) → join (xs d) ≡ y d) → Lays p xs qs r → Lays p (λ d. given (lens qs) (y d) ∷ []) qs r
 lays_given {p = p} {qs = qs} y h e a = record {
   buffer = a.buffer;
   source = a.source;
@@ -328,7 +328,7 @@ own_part d a = given_parts d (a ∷ []) (cut d a) (λ e. cut_none d a (omega ari
 pub pair_both : {t e : List ℕ} {p r : End} (lead d : List ℕ) (a b : Span) → Adds d t p (text_pair lead d a b ∷ []) (a ∷ b ∷ []) e r → Adds d t p (text_both lead d a b ∷ []) (a ∷ b ∷ []) e r
 pair_both lead d a b x = alike (ap (λ (z : List ℕ). given (size_of a ∷ size_of b ∷ []) (lead ++ (cut d a ++ z)) ++ []) (own_part d b)) x
 
-pub lays_both : {p r : Pen} (lead : List ℕ) (a b : Span) → Lays p (λ d. text_pair lead d a b ∷ []) (a ∷ b ∷ []) r → Lays p (λ d. text_both lead d a b ∷ []) (a ∷ b ∷ []) r
+pub lays_both : {p r : Sheet} (lead : List ℕ) (a b : Span) → Lays p (λ d. text_pair lead d a b ∷ []) (a ∷ b ∷ []) r → Lays p (λ d. text_both lead d a b ∷ []) (a ∷ b ∷ []) r
 lays_both {p = p} lead a b l = record { buffer = l.buffer; source = l.source; adds = pair_both lead p.source.now a b l.adds }
 
 pub form_18 : (d : List ℕ) (a b : Span) → cut d a ++ led_by (47 ∷ []) d b ≡ cond (not (some (size_of b ∷ size_of b ∷ []))) (cut d a) (cut d a ++ (47 ∷ cut d b))

@@ -2,7 +2,7 @@
 ghost use Rattle.std.specs.Prelude.{[], ◌∷◌, ◌≡◌};
 ghost use Rattle.pen.specs.Laying.{Lays, any_of, text_reference, text_two, text07, text_pair, text09, text10, text14, text15, text_alternates, text16, text18};
 
-use crate::Pen;
+use crate::Sheet;
 use scan::Span;
 
 // Whether any of some parts is there.
@@ -14,7 +14,7 @@ fn any_there(parts: &[Span]) -> bool
 
 // The fields, each with what leads it: a hyphen, and within field 22 a number. Where no part of a field is there, nothing is
 // added. The short ones, and `add_number`, are inlined: else writing a record takes 4 in a hundred more.
-impl Pen<'_> {
+impl Sheet<'_> {
     pub fn add_reference(&mut self, a: Span, b: Span, c: Span)
         ensures { Lays self.old (λ d. text_reference d a b c ∷ []) (a ∷ b ∷ c ∷ []) self.new }
     {

@@ -9,24 +9,26 @@ use scan::Span;
 
 pub mod field_texts;
 
+// Where a text ends that is being laid out; none, from the first piece on that could not be added.
+pub type Pen = Option<usize>;
+
 // A text that is being laid out in a buffer, of parts of a source and of what stands between them.
 #[derive(Drop)]
-pub struct Pen<'a> {
+pub struct Sheet<'a> {
     text: &'a mut [u8],
     source: &'a [u8],
-    // Where the text ends; none, from the first piece on that could not be added.
-    pub end: Option<usize>,
+    pub end: Pen,
 }
 
-impl<'a> Pen<'a> {
+impl<'a> Sheet<'a> {
     // Nothing is laid out yet.
-    pub fn start(text: &'a mut [u8], source: &'a [u8]) -> Pen<'a>
+    pub fn start(text: &'a mut [u8], source: &'a [u8]) -> Sheet<'a>
         ensures buffer { result.text.ghost_name ≡ text.entry.ghost_name }
         ensures text { result.text.now ≡ text.old }
         ensures source { result.source.now ≡ source.now }
         ensures end { result.end ≡ Some 0 }
     {
-        Pen {
+        Sheet {
             text,
             source,
             end: Some(0),

@@ -11,50 +11,50 @@ ghost use Rattle.response.specs.Answering.{answer_text};
 ghost use Rattle.response.specs.Blocks.{number_blocks, number_spans, lam_blocks, rla_blocks, rla_spans, lrm_blocks};
 
 use message::{Kind, Record};
-use pen::Pen;
+use pen::{Pen, Sheet};
 use scan::Span;
 use types::Number;
 
 // The answer's own number, and as its reference the number that it answers.
-fn add_numbers(pen: &mut Pen, n: Number)
-    ensures { Lays pen.old (λ d. number_blocks d n) (number_spans n) pen.new }
+fn add_numbers(sheet: &mut Sheet, n: Number)
+    ensures { Lays sheet.old (λ d. number_blocks d n) (number_spans n) sheet.new }
 {
-    pen.add_number(n.receiver, n.sender, n.digits);
-    pen.add_number(n.sender, n.receiver, n.digits);
+    sheet.add_number(n.receiver, n.sender, n.digits);
+    sheet.add_number(n.sender, n.receiver, n.digits);
 }
 
-fn lay_lam(text: &mut [u8], w: &[u8], n: Number) -> Option<usize>
+fn lay_lam(text: &mut [u8], w: &[u8], n: Number) -> Pen
     ensures { Adds w.now text.old start (lam_blocks w.now n) (number_spans n) text.new (end_of result) }
 {
-    let mut pen = Pen::start(text, w);
-    compose::open_text(&mut pen, Kind::Lam);
-    add_numbers(&mut pen, n);
-    pen.add(b")");
-    pen.end
+    let mut sheet = Sheet::start(text, w);
+    compose::open_text(&mut sheet, Kind::Lam);
+    add_numbers(&mut sheet, n);
+    sheet.add(b")");
+    sheet.end
 }
 
-fn lay_rla(text: &mut [u8], w: &[u8], n: Number, sector: Span) -> Option<usize>
+fn lay_rla(text: &mut [u8], w: &[u8], n: Number, sector: Span) -> Pen
     ensures { Adds w.now text.old start (rla_blocks w.now n sector) (rla_spans n sector) text.new (end_of result) }
 {
-    let mut pen = Pen::start(text, w);
-    compose::open_text(&mut pen, Kind::Rla);
-    add_numbers(&mut pen, n);
-    pen.add_led(b"-", sector);
-    pen.add(b")");
-    pen.end
+    let mut sheet = Sheet::start(text, w);
+    compose::open_text(&mut sheet, Kind::Rla);
+    add_numbers(&mut sheet, n);
+    sheet.add_led(b"-", sector);
+    sheet.add(b")");
+    sheet.end
 }
 
-fn lay_lrm(text: &mut [u8], w: &[u8], n: Number, v: u8) -> Option<usize>
+fn lay_lrm(text: &mut [u8], w: &[u8], n: Number, v: u8) -> Pen
     ensures { Adds w.now text.old start (lrm_blocks w.now n v) (number_spans n) text.new (end_of result) }
 {
     let reason = [b'0' + v / 10, b'0' + v % 10];
-    let mut pen = Pen::start(text, w);
-    compose::open_text(&mut pen, Kind::Lrm);
-    add_numbers(&mut pen, n);
-    pen.add(b"-RMK/");
-    pen.add(&reason);
-    pen.add(b")");
-    pen.end
+    let mut sheet = Sheet::start(text, w);
+    compose::open_text(&mut sheet, Kind::Lrm);
+    add_numbers(&mut sheet, n);
+    sheet.add(b"-RMK/");
+    sheet.add(&reason);
+    sheet.add(b")");
+    sheet.end
 }
 
 // Lays the text of an answer at the start of a buffer, and answers its length.

@@ -107,6 +107,10 @@ picked_by a b c k l m o s q t w e =
     let j = t.three in
     picked_at a b c o s q t.long t.opens (omega arith) (omega arith) (omega arith) e
 
+-- and so each letter by itself
+picked_on : (a b c : ℕ) → a < 256 → b < 256 → c < 256 → once a b c fpl_arm other_arms ≡ true → Picks a b c (arm_of a b c fpl_arm other_arms)
+picked_on a b c k l m o s q h p x y z e = picked_by a b c k l m o s q (typed s h p (omega (arith, x, k)) (omega (arith, y, l)) (omega (arith, z, m))) (rw (x, y, z)) e
+
 -- `unfolding arms` opens the arm of each message
 unfoldable pub arms : Unit {0}
 unfolding fpl_arm cpl_arm est_arm chg_arm cnl_arm rti_arm rta_arm rla_arm lam_arm lrm_arm other_arms
@@ -114,43 +118,43 @@ arms = tt
 
 pub picks_fpl : Picks 70 80 76 fpl
 unfolding arms
-picks_fpl = picked_at 70 80 76 refl
+picks_fpl = picked_on 70 80 76 (omega arith) (omega arith) (omega arith) refl
 
 pub picks_cpl : Picks 67 80 76 cpl
 unfolding arms
-picks_cpl = picked_at 67 80 76 refl
+picks_cpl = picked_on 67 80 76 (omega arith) (omega arith) (omega arith) refl
 
 pub picks_est : Picks 69 83 84 est
 unfolding arms
-picks_est = picked_at 69 83 84 refl
+picks_est = picked_on 69 83 84 (omega arith) (omega arith) (omega arith) refl
 
 pub picks_chg : Picks 67 72 71 chg
 unfolding arms
-picks_chg = picked_at 67 72 71 refl
+picks_chg = picked_on 67 72 71 (omega arith) (omega arith) (omega arith) refl
 
 pub picks_cnl : Picks 67 78 76 cnl
 unfolding arms
-picks_cnl = picked_at 67 78 76 refl
+picks_cnl = picked_on 67 78 76 (omega arith) (omega arith) (omega arith) refl
 
 pub picks_rti : Picks 82 84 73 rti
 unfolding arms
-picks_rti = picked_at 82 84 73 refl
+picks_rti = picked_on 82 84 73 (omega arith) (omega arith) (omega arith) refl
 
 pub picks_rta : Picks 82 84 65 rta
 unfolding arms
-picks_rta = picked_at 82 84 65 refl
+picks_rta = picked_on 82 84 65 (omega arith) (omega arith) (omega arith) refl
 
 pub picks_rla : Picks 82 76 65 rla
 unfolding arms
-picks_rla = picked_at 82 76 65 refl
+picks_rla = picked_on 82 76 65 (omega arith) (omega arith) (omega arith) refl
 
 pub picks_lam : Picks 76 65 77 lam
 unfolding arms
-picks_lam = picked_at 76 65 77 refl
+picks_lam = picked_on 76 65 77 (omega arith) (omega arith) (omega arith) refl
 
 pub picks_lrm : Picks 76 82 77 lrm
 unfolding arms
-picks_lrm = picked_at 76 82 77 refl
+picks_lrm = picked_on 76 82 77 (omega arith) (omega arith) (omega arith) refl
 
 pub ruleset picks = (picks_fpl, picks_cpl, picks_est, picks_chg, picks_cnl, picks_rti, picks_rta, picks_rla, picks_lam, picks_lrm)
 

@@ -43,19 +43,6 @@ opened_by g s = record {
   };
 }
 
--- the parts of a message, as far as its heading has them
-abbrev pub headed_by : Heading → Parts
-headed_by h = record {
-  number = h.number;
-  reference = h.reference;
-  own = plan_of (λ _. none);
-  estimate = record { point = none; over = none; crossing = none; second = none; sense = none };
-  changes = amended_plan (λ _. none);
-  sector = none;
-  track = none;
-  reason = none;
-}
-
 -- fields 07 to 10
 unfoldable pub front_of : List ℕ → Scan → Found Plan
 front_of s r = record { end = scan (g07 0 ─ g08 0 ─ g09 0 ─ g10 0) s r; parts = plan_of (λ k. spot k (g07 0 ─ g08 0 ─ g09 0 ─ g10 0) s r) }

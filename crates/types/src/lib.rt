@@ -1,12 +1,12 @@
 // The ten types of message: each function mirrors one line of document 01's table and notes where the parts stand.
 #![tactic(auto, using(fields::specs::Forth::goes_forth, crate::specs::Scanned::endings), unfolding(crate::specs::Scanned::scanned_rules))]
 
-ghost use Rattle.std.specs.Prelude.{◌≡◌, [], ◌∷◌, ◌≤◌, length};
+ghost use Rattle.std.specs.Prelude.{◌≡◌, [], ◌∷◌, ◌<◌, get_or};
 ghost use Rattle.scan.specs.Grammar.{none};
 ghost use Rattle.scan.specs.Texts.{lit};
 ghost use Rattle.scan.specs.Scanner.{scan_at};
 ghost use Rattle.types.specs.Messages.{opened as opened_g, referring as referring_g, fpl as fpl_g, cpl as cpl_g, est as est_g, chg as chg_g, cnl as cnl_g, rti as rti_g, rta as rta_g, rla as rla_g, lam as lam_g, lrm as lrm_g, message as message_g};
-ghost use Rattle.types.specs.Scanned.{parts_of, opened_by, front_of, headed_by, scanned_by, stopped_at};
+ghost use Rattle.types.specs.Scanned.{parts_of, opened_by, front_of, scanned_by, stopped_at};
 ghost use Rattle.types.specs.Arms.{keys_of};
 ghost use Rattle.types.specs.Picking.{unknown_of, fpl_arm, other_arms, letters_of};
 
@@ -46,15 +46,27 @@ fn opens(s: &[u8], a: u8, b: u8, c: u8) -> Scan
     scan::byte(s, y, c)
 }
 
-// The same, and the number.
+// The same, and the number. It and the reference are taken apart and put together anew: where they were moved as they came, reading a
+// short text took a third more, and its listing up to 1.8 times as long.
 fn opened(s: &[u8], a: u8, b: u8, c: u8) -> Found<Heading>
     ensures { result ≡ opened_by (opened_g a b c) s.now }
 {
-    let n = plan_fields::number(s, opens(s, a, b, c));
+    let Found {
+        end,
+        parts: Number {
+            sender,
+            receiver,
+            digits,
+        },
+    } = plan_fields::number(s, opens(s, a, b, c));
     Found {
-        end: n.end,
+        end,
         parts: Heading {
-            number: n.parts,
+            number: Number {
+                sender,
+                receiver,
+                digits,
+            },
             reference: Number::default(),
         },
     }
@@ -66,12 +78,23 @@ fn referring(s: &[u8], a: u8, b: u8, c: u8) -> Found<Heading>
     ensures { result ≡ opened_by (referring_g a b c) s.now }
 {
     let h = opened(s, a, b, c);
-    let n = plan_fields::number(s, h.end);
+    let Found {
+        end,
+        parts: Number {
+            sender,
+            receiver,
+            digits,
+        },
+    } = plan_fields::number(s, h.end);
     Found {
-        end: n.end,
+        end,
         parts: Heading {
-            reference: n.parts,
-            ..h.parts
+            number: h.parts.number,
+            reference: Number {
+                sender,
+                receiver,
+                digits,
+            },
         },
     }
 }
@@ -101,17 +124,6 @@ fn front(s: &[u8], r: Scan) -> Found<Plan>
     }
 }
 
-// The parts of a message, as far as its heading has them.
-fn headed(h: Heading) -> Parts
-    ensures { result ≡ headed_by h }
-{
-    Parts {
-        number: h.number,
-        reference: h.reference,
-        ..no_parts()
-    }
-}
-
 pub fn no_parts() -> Parts
     ensures { result ≡ parts_of (λ _. none) }
 {
@@ -137,8 +149,10 @@ fn stopped(end: Scan) -> Found<Parts>
     }
 }
 
-// ---- the ten types. Most texts that are refused stop before their last fields, so the longer types have a way out on the way.
+// ---- the ten types. Most texts that are refused stop before their last fields, so the longer types have a way out on the way. Each is
+// inlined where it is picked: else the parts are made even for a caller that only asks whether a text is read.
 
+#[inline(always)]
 fn fpl(s: &[u8]) -> Found<Parts>
     ensures { result ≡ scanned_by fpl_g s.now }
 {
@@ -158,6 +172,8 @@ fn fpl(s: &[u8]) -> Found<Parts>
     Found {
         end,
         parts: Parts {
+            number: h.parts.number,
+            reference: h.parts.reference,
             own: Plan {
                 departure: d.departure,
                 time: d.time,
@@ -172,11 +188,12 @@ fn fpl(s: &[u8]) -> Found<Parts>
                 other: o.other,
                 ..f.parts
             },
-            ..headed(h.parts)
+            ..no_parts()
         },
     }
 }
 
+#[inline(always)]
 fn cpl(s: &[u8]) -> Found<Parts>
     ensures { result ≡ scanned_by cpl_g s.now }
 {
@@ -199,6 +216,8 @@ fn cpl(s: &[u8]) -> Found<Parts>
     Found {
         end,
         parts: Parts {
+            number: h.parts.number,
+            reference: h.parts.reference,
             own: Plan {
                 departure: scan::between(e2, e3),
                 speed: r.speed,
@@ -210,11 +229,12 @@ fn cpl(s: &[u8]) -> Found<Parts>
                 ..f.parts
             },
             estimate: x.parts,
-            ..headed(h.parts)
+            ..no_parts()
         },
     }
 }
 
+#[inline(always)]
 fn est(s: &[u8]) -> Found<Parts>
     ensures { result ≡ scanned_by est_g s.now }
 {
@@ -235,6 +255,8 @@ fn est(s: &[u8]) -> Found<Parts>
     Found {
         end,
         parts: Parts {
+            number: h.parts.number,
+            reference: h.parts.reference,
             own: Plan {
                 aircraft: i.aircraft,
                 code: i.code,
@@ -243,11 +265,12 @@ fn est(s: &[u8]) -> Found<Parts>
                 ..changes::no_plan()
             },
             estimate: x.parts,
-            ..headed(h.parts)
+            ..no_parts()
         },
     }
 }
 
+#[inline(always)]
 fn chg(s: &[u8]) -> Found<Parts>
     ensures { result ≡ scanned_by chg_g s.now }
 {
@@ -268,6 +291,8 @@ fn chg(s: &[u8]) -> Found<Parts>
     Found {
         end,
         parts: Parts {
+            number: h.parts.number,
+            reference: h.parts.reference,
             own: Plan {
                 aircraft: scan::between(e1, e2),
                 departure: d.departure,
@@ -278,11 +303,12 @@ fn chg(s: &[u8]) -> Found<Parts>
                 ..changes::no_plan()
             },
             changes: c.plan,
-            ..headed(h.parts)
+            ..no_parts()
         },
     }
 }
 
+#[inline(always)]
 fn cnl(s: &[u8]) -> Found<Parts>
     ensures { result ≡ scanned_by cnl_g s.now }
 {
@@ -303,6 +329,8 @@ fn cnl(s: &[u8]) -> Found<Parts>
     Found {
         end,
         parts: Parts {
+            number: h.parts.number,
+            reference: h.parts.reference,
             own: Plan {
                 aircraft: scan::between(e1, e2),
                 departure: d.departure,
@@ -312,11 +340,12 @@ fn cnl(s: &[u8]) -> Found<Parts>
                 other: o.other,
                 ..changes::no_plan()
             },
-            ..headed(h.parts)
+            ..no_parts()
         },
     }
 }
 
+#[inline(always)]
 fn rti(s: &[u8]) -> Found<Parts>
     ensures { result ≡ scanned_by rti_g s.now }
 {
@@ -340,6 +369,8 @@ fn rti(s: &[u8]) -> Found<Parts>
     Found {
         end,
         parts: Parts {
+            number: h.parts.number,
+            reference: h.parts.reference,
             own: Plan {
                 aircraft: i.aircraft,
                 code: i.code,
@@ -349,11 +380,12 @@ fn rti(s: &[u8]) -> Found<Parts>
             },
             sector: scan::between(e6, e7),
             track: scan::between(e8, e9),
-            ..headed(h.parts)
+            ..no_parts()
         },
     }
 }
 
+#[inline(always)]
 fn rta(s: &[u8]) -> Found<Parts>
     ensures { result ≡ scanned_by rta_g s.now }
 {
@@ -376,6 +408,8 @@ fn rta(s: &[u8]) -> Found<Parts>
     Found {
         end,
         parts: Parts {
+            number: h.parts.number,
+            reference: h.parts.reference,
             own: Plan {
                 aircraft: scan::between(e1, e2),
                 departure: scan::between(e3, e4),
@@ -383,11 +417,12 @@ fn rta(s: &[u8]) -> Found<Parts>
                 ..changes::no_plan()
             },
             sector: scan::between(e7, e8),
-            ..headed(h.parts)
+            ..no_parts()
         },
     }
 }
 
+#[inline(always)]
 fn rla(s: &[u8]) -> Found<Parts>
     ensures { result ≡ scanned_by rla_g s.now }
 {
@@ -401,12 +436,15 @@ fn rla(s: &[u8]) -> Found<Parts>
     Found {
         end,
         parts: Parts {
+            number: h.parts.number,
+            reference: h.parts.reference,
             sector: scan::between(e1, e2),
-            ..headed(h.parts)
+            ..no_parts()
         },
     }
 }
 
+#[inline(always)]
 fn lam(s: &[u8]) -> Found<Parts>
     ensures { result ≡ scanned_by lam_g s.now }
 {
@@ -417,10 +455,15 @@ fn lam(s: &[u8]) -> Found<Parts>
     }
     Found {
         end,
-        parts: headed(h.parts),
+        parts: Parts {
+            number: h.parts.number,
+            reference: h.parts.reference,
+            ..no_parts()
+        },
     }
 }
 
+#[inline(always)]
 fn lrm(s: &[u8]) -> Found<Parts>
     ensures { result ≡ scanned_by lrm_g s.now }
 {
@@ -435,8 +478,10 @@ fn lrm(s: &[u8]) -> Found<Parts>
     Found {
         end,
         parts: Parts {
+            number: h.parts.number,
+            reference: h.parts.reference,
             reason: scan::between(e2, e3),
-            ..headed(h.parts)
+            ..no_parts()
         },
     }
 }
@@ -474,12 +519,18 @@ fn unknown(s: &[u8]) -> Found<Parts>
     stopped(keys(s))
 }
 
+// The byte at i as a number, 0 past the end.
+fn number_at(s: &[u8], i: usize) -> usize
+    ensures { (result ≡ get_or s.now i 0) × (result < 256) }
+{
+    scan::wide(s.get(i).copied().unwrap_or(0))
+}
+
 // The three letters of the type as one number.
 pub fn letters(s: &[u8]) -> usize
-    requires { 4 ≤ length s.now }
     ensures { result ≡ letters_of s.now }
 {
-    scan::wide(s[1]) * 65536 + scan::wide(s[2]) * 256 + scan::wide(s[3])
+    number_at(s, 1) * 65536 + number_at(s, 2) * 256 + number_at(s, 3)
 }
 
 // The scan of the one type that has the letters. The types are called from here and from no function between, so that

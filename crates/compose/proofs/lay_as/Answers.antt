@@ -5,5 +5,5 @@ use Rattle.compose.proofs.lay_as.Goals as goal
 
 pub returns : goal.returns
 returns c =
-    let p = c.start-pen.ensures in
+    let p = c.start-sheet.ensures in
     lays_from_start p.source p.text p.end (lays_then c.open_text.ensures (lays_then c.add.ensures c.add_rest.ensures)) (search rules) refl

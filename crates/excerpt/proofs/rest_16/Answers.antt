@@ -14,7 +14,7 @@ pub returns : goal.returns
 returns c =
     let a = c.args in
     let h = c.requires in
-    let p = c.start-pen.ensures in
+    let p = c.start-sheet.ensures in
     let w = a.w.now in
     let q = a.p in
     laid (texts_of w q).rest16 (ap (λ (z : List ℕ). led_by [] w q.elapsed ++ z) (append-nil (text_alternates w q.alternate q.alternate2))) (omega (arith, h.0.short.rest16, h.1)) (stretch w (plan_spans q) 15 3 h.0.inside)

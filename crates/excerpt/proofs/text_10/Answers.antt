@@ -12,6 +12,6 @@ pub returns : goal.returns
 returns c =
     let a = c.args in
     let h = c.requires in
-    let p = c.start-pen.ensures in
+    let p = c.start-sheet.ensures in
     laid (texts_of a.w.now a.p).field10 (append-nil (texts_of a.w.now a.p).field10) (omega (arith, h.0.short.field10, h.1)) (stretch a.w.now (plan_spans a.p) 7 2 h.0.inside)
     p.source p.text p.end c.add_10.ensures (search rules) refl c.unwrap_or.ensures

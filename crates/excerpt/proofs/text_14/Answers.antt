@@ -11,6 +11,6 @@ pub returns : goal.returns
 returns c =
     let a = c.args in
     let h = c.requires in
-    let p = c.start-pen.ensures in
+    let p = c.start-sheet.ensures in
     laid (field14_of a.w.now a.e) (append-nil (field14_of a.w.now a.e)) (omega (arith, h.0.short, h.1)) h.0.inside
     p.source p.text p.end c.add_14.ensures (search rules) refl c.unwrap_or.ensures

@@ -5,7 +5,7 @@ use Rattle.response.proofs.lay_lam.Goals as goal
 
 pub returns : goal.returns
 returns c =
-    let p = c.start-pen.ensures in
+    let p = c.start-sheet.ensures in
     lays_from_start p.source p.text p.end
     (lays_then c.open_text.ensures (lays_then c.add_numbers.ensures c.add.ensures))
     (search rules) refl

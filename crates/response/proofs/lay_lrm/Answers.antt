@@ -5,7 +5,7 @@ use Rattle.response.proofs.lay_lrm.Goals as goal
 
 pub returns : goal.returns
 returns c =
-    let p = c.start-pen.ensures in
+    let p = c.start-sheet.ensures in
     lays_from_start p.source p.text p.end
     (lays_then c.open_text.ensures (lays_then c.add_numbers.ensures (lays_then c.add.ensures (lays_then c.add-2.ensures c.add-3.ensures))))
     (search rules) refl

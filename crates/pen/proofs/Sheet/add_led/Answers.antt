@@ -1,9 +1,9 @@
--- `pen::Pen::add_led` meets its contract.
+-- `pen::Sheet::add_led` meets its contract.
 use mathlib.Core.List.{append-nil}
 use native.Mathlib.Omega.{arith}
 use Rattle.reader.specs.Reading.{cut}
 use Rattle.pen.specs.Laying.{lays_given, lays_then, is_there}
-use Rattle.pen.proofs.Pen.add_led.Goals as goal
+use Rattle.pen.proofs.Sheet.add_led.Goals as goal
 
 pub returns : goal.returns
 returns c =

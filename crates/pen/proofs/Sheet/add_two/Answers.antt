@@ -1,8 +1,8 @@
--- `pen::Pen::add_two` meets its contract.
+-- `pen::Sheet::add_two` meets its contract.
 use mathlib.Core.Path.{sym, ◌∙◌}
 use mathlib.Core.List.{append-nil}
 use Rattle.pen.specs.Laying.{lays_given, lays_then, led_by}
-use Rattle.pen.proofs.Pen.add_two.Goals as goal
+use Rattle.pen.proofs.Sheet.add_two.Goals as goal
 
 pub returns-then-any_there : goal.returns-then-any_there
 returns-then-any_there c =

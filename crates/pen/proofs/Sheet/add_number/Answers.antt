@@ -1,8 +1,8 @@
--- `pen::Pen::add_number` meets its contract.
+-- `pen::Sheet::add_number` meets its contract.
 use mathlib.Core.List.{append-nil}
 use Rattle.reader.specs.Reading.{cut}
 use Rattle.pen.specs.Laying.{lays_then, lays_alike, text_number}
-use Rattle.pen.proofs.Pen.add_number.Goals as goal
+use Rattle.pen.proofs.Sheet.add_number.Goals as goal
 
 pub returns : goal.returns
 returns c =

@@ -1,9 +1,9 @@
--- `pen::Pen::add_09` meets its contract.
+-- `pen::Sheet::add_09` meets its contract.
 use mathlib.Core.Path.{sym, ◌∙◌}
 use mathlib.Core.List.{append-nil}
 use Rattle.reader.specs.Reading.{cut}
 use Rattle.pen.specs.Laying.{lays_given, lays_then, own_part}
-use Rattle.pen.proofs.Pen.add_09.Goals as goal
+use Rattle.pen.proofs.Sheet.add_09.Goals as goal
 
 pub returns-then-any_there : goal.returns-then-any_there
 returns-then-any_there c =

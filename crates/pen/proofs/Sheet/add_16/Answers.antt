@@ -1,8 +1,8 @@
--- `pen::Pen::add_16` meets its contract.
+-- `pen::Sheet::add_16` meets its contract.
 use mathlib.Core.Path.{sym, ◌∙◌}
 use mathlib.Core.List.{append-nil}
 use Rattle.pen.specs.Laying.{lays_given, lays_then, own_part, text_alternates}
-use Rattle.pen.proofs.Pen.add_16.Goals as goal
+use Rattle.pen.proofs.Sheet.add_16.Goals as goal
 
 pub returns-then-any_there : goal.returns-then-any_there
 returns-then-any_there c =
