@@ -106,6 +106,6 @@ length_of (Some n) = refl
 pub fits : {w b e : List ℕ} {n : ℕ} {xs : List (List ℕ)} {qs : List Span} (o : Option ℕ) (t : List ℕ) → join xs ≡ t → length t ≤ length b → AllInside w qs → Adds w b start xs qs e (end_of o) → n ≡ unwrap_or o 0 → Starts t b e n
 fits {b = b} {e = e} o t i h q a m = subst (Starts t b e) (sym (m ∙ length_of o)) (starts t i h q a)
 
--- what a pen laid out from the start of a buffer on, where e stands in it in the end
+-- what was laid out on a sheet from the start of its buffer on, where e stands in it in the end
 pub laid : {w b e : List ℕ} {o : Option ℕ} {n : ℕ} {p r : Sheet} {xs : List ℕ → List (List ℕ)} {qs : List Span} (t : List ℕ) → join (xs w) ≡ t → length t ≤ length b → AllInside w qs → p.source.now ≡ w → p.text.now ≡ b → p.end ≡ Some 0 → Lays p xs qs r → r.text.now ≡ e → o ≡ r.end → n ≡ unwrap_or o 0 → Starts t b e n
 laid {o = o} t i h q s k z a f g m = fits o t i h q (lays_from_start s k z a f (sym g)) m

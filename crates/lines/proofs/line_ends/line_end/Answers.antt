@@ -1,5 +1,13 @@
-use Rattle.lines.proofs.Feeding.{first_feed}
+use Rattle.std.proofs.Common.{arith}
+use Rattle.std.proofs.lemmas.List.{take_rest}
+use Rattle.lines.proofs.Feeding.{rest_length, searched}
 use Rattle.lines.proofs.line_ends.line_end.Goals as goal
 
+-- what is searched is an end of s; no line feed stands before it; the answer is where the search stopped. All of s is searched, so that
+-- this is more than the code needs: by it the edit line_feed_overlooked, which begins later, is refused for a line feed that it passes over
 pub returns : goal.returns
-returns c = rw c.unwrap_or.ensures (first_feed c.args.s.now c.memchr.result c.memchr.ensures)
+returns c =
+    searched c.args.s.now _ _ _ c.memchr.ensures
+    (grind (arith, rest_length, take_rest))
+    (λ i l h. search (arith, rest_length, l, h))
+    (grind (arith, rest_length, c.unwrap_or.ensures))
