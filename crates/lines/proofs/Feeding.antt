@@ -1,6 +1,6 @@
 -- Laws of bytes before a line feed. Assumes nothing.
-use Rattle.std.proofs.Common.{◌≡◌, refl, sym, ◌⊎◌, inl, inr, ℕ, zero, suc, ◌+◌, ◌-◌, ◌<◌, ◌≤◌, true, List, [], ◌∷◌, Option, None, Some, unwrap_or, length, take, drop, get_or, slice_index, eqb, arith}
-use Rattle.std.proofs.lemmas.List.{get_or-drop, length-drop, take_rest}
+use Rattle.std.proofs.Common.{◌≡◌, refl, sym, ◌⊎◌, inl, inr, ℕ, zero, suc, ◌+◌, ◌-◌, ◌<◌, ◌≤◌, true, List, [], ◌∷◌, Option, None, Some, unwrap_or, length, take, drop, slice_index, eqb, arith}
+use Rattle.std.proofs.lemmas.List.{get_or-drop, length-drop}
 use Rattle.std.proofs.lemmas.Bool.{cases_lt, eqb-true, false_from_ne_true}
 use Rattle.std.proofs.Math.Seq.{take-nil}
 use Rattle.memchr.specs.Find.{NoneBefore, Nowhere, Passes, IsFirstByte, is_byte}
@@ -21,31 +21,29 @@ first_feed s (Some k) (first, here) = record { inside = omega (arith, first.high
 
 -- ---- a search that begins behind the first bytes of s, of which none is a line feed
 
--- how long the rest of s is from n on
-pub rest_length : (s : List ℕ) (n : ℕ) → length (take (length s - n) (drop n s)) ≡ length s - n
-rest_length s n = rw (take_rest s n) (length-drop n s)
-
-behind : (s : List ℕ) (past i : ℕ) → past ≤ i → Passes (is_byte 10) s i → Passes (is_byte 10) (drop past s) (i - past)
-behind s past i low here =
+-- a line feed that is not among them is in the rest
+in_rest : (s : List ℕ) (past i : ℕ) → past ≤ i → Passes (is_byte 10) s i → Passes (is_byte 10) (drop past s) (i - past)
+in_rest s past i low here =
     let same : past + (i - past) ≡ i = omega (arith, low) in
     rw (get_or-drop past s (i - past) 0, same) here
 
-none_before : (s : List ℕ) (past k : ℕ) → ((i : ℕ) → i < past → get_or s i 0 ≡ 10 → ⊥) → Nowhere (Passes (is_byte 10) (drop past s)) 0 k → Nowhere (Passes (is_byte 10) s) 0 (past + k)
-none_before s past k none rest i low high here = go (cases_lt i past)
+-- so where the search of the rest met none there is none
+none_met : (s : List ℕ) (past k : ℕ) → Nowhere (Passes (is_byte 10) s) 0 past → Nowhere (Passes (is_byte 10) (drop past s)) 0 k → Nowhere (Passes (is_byte 10) s) 0 (past + k)
+none_met s past k before rest i low high here = go (cases_lt i past)
   where
     go : (i < past) ⊎ (past ≤ i) → ⊥
-    go (inl l) = none i l (eqb-true (slice_index s i) 10 here)
-    go (inr l) = rest (i - past) (omega arith) (omega (arith, l, high)) (behind s past i l here)
+    go (inl l) = before i low l here
+    go (inr l) = rest (i - past) (omega arith) (omega (arith, l, high)) (in_rest s past i l here)
 
-begun_later : (s : List ℕ) (past : ℕ) (r : Option ℕ) → past ≤ length s → ((i : ℕ) → i < past → get_or s i 0 ≡ 10 → ⊥) → IsFirstByte (is_byte 10) (drop past s) r → LineEnd s (past + unwrap_or r (length (drop past s)))
-begun_later s past None low none found =
+begun_later : (s : List ℕ) (past : ℕ) (r : Option ℕ) → past ≤ length s → Nowhere (Passes (is_byte 10) s) 0 past → IsFirstByte (is_byte 10) (drop past s) r → LineEnd s (past + unwrap_or r (length (drop past s)))
+begun_later s past None low before found =
     let all : past + length (drop past s) ≡ length s = omega (arith, low, length-drop past s) in
-    rw all (first_feed s None (rw all at (none_before s past (length (drop past s)) none found)))
-begun_later s past (Some k) low none (first, here) =
+    rw all (first_feed s None (rw all at (none_met s past (length (drop past s)) before found)))
+begun_later s past (Some k) low before (first, here) =
     let inside : past + k < length s = omega (arith, low, first.high, length-drop past s) in
-    let at : NoneBefore (Passes (is_byte 10) s) 0 (length s) (past + k) = record { low = omega arith; high = inside; before = none_before s past k none first.before } in
+    let at : NoneBefore (Passes (is_byte 10) s) 0 (length s) (past + k) = record { low = omega arith; high = inside; before = none_met s past k before first.before } in
     first_feed s (Some (past + k)) (at, rw (get_or-drop past s k 0) at here)
 
 -- the same where what is searched is known only as an end of s: all of s, say
-pub searched : (s end : List ℕ) (n : ℕ) (r : Option ℕ) → IsFirstByte (is_byte 10) end r → end ≡ drop (length s - length end) s → ((i : ℕ) → i < length s - length end → get_or s i 0 ≡ 10 → ⊥) → n ≡ length s - length end + unwrap_or r (length end) → LineEnd s n
-searched s end n r found part none e = rw e (rw (sym part) at (begun_later s (length s - length end) r (omega arith) none (rw part at found)))
+pub searched : (s end : List ℕ) (n : ℕ) (r : Option ℕ) → IsFirstByte (is_byte 10) end r → end ≡ drop (length s - length end) s → Nowhere (Passes (is_byte 10) s) 0 (length s - length end) → n ≡ length s - length end + unwrap_or r (length end) → LineEnd s n
+searched s end n r found part before e = rw e (rw (sym part) at (begun_later s (length s - length end) r (omega arith) before (rw part at found)))

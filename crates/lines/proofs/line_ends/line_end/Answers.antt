@@ -1,6 +1,6 @@
 use Rattle.std.proofs.Common.{arith}
 use Rattle.std.proofs.lemmas.List.{take_rest}
-use Rattle.lines.proofs.Feeding.{rest_length, searched}
+use Rattle.lines.proofs.Feeding.{searched}
 use Rattle.lines.proofs.line_ends.line_end.Goals as goal
 
 -- what is searched is an end of s; no line feed stands before it; the answer is where the search stopped. All of s is searched, so that
@@ -8,6 +8,6 @@ use Rattle.lines.proofs.line_ends.line_end.Goals as goal
 pub returns : goal.returns
 returns c =
     searched c.args.s.now _ _ _ c.memchr.ensures
-    (grind (arith, rest_length, take_rest))
-    (λ i l h. search (arith, rest_length, l, h))
-    (grind (arith, rest_length, c.unwrap_or.ensures))
+    (grind (arith, take_rest))
+    (λ i low high here. search (arith, high, here))
+    (grind (arith, c.unwrap_or.ensures))
